@@ -1,0 +1,157 @@
+-- What a call of the desk appends, and what it leaves.
+use Rattle.std.specs.Prelude.{ℕ, Bool, true, false, List, [], ◌∷◌, ◌≡◌, ◌+◌, ◌<◌, ◌≤◌, ◌⊎◌, Option, None, Some, length, slice_set, slice_get, IfSome, if◌then◌else◌}
+use Rattle.std.specs.Option.{option_and_then}
+use Rattle.page_ids.specs.Chunks.{chunks_of}
+use Rattle.page_ids.specs.Content.{Content}
+use Rattle.page_ids.specs.Layout.{IsPage}
+use Rattle.page_ids.specs.declared.ids.PageId.{PageId}
+use Rattle.page_ids.specs.declared.config.Config.{Config}
+use Rattle.page_ids.specs.declared.layout.BadPage.{BadPage}
+use Rattle.page_disk.specs.Disks.{pages_in}
+use Rattle.trail.specs.declared.event.Entry.{Entry}
+use Rattle.trail.specs.declared.event.Call.TheVariants as call
+use Rattle.trail.specs.declared.event.Cause.{Cause}
+use Rattle.trail.specs.declared.event.Cause.TheVariants as cause
+use Rattle.trail.specs.declared.event.Kind.{Kind}
+use Rattle.trail.specs.declared.event.Kind.TheVariants as kind
+use Rattle.trail.specs.Places.{mark}
+use Rattle.trail.specs.History.{home, change}
+use Rattle.trail.specs.Book.{book, next_frame, is_late}
+use Rattle.desk.specs.State.{State}
+use Rattle.desk.specs.declared.calls.Caller.{Caller}
+use Rattle.desk.specs.declared.calls.Granted.{Granted}
+use Rattle.desk.specs.declared.calls.FixErr.{FixErr}
+use Rattle.desk.specs.declared.calls.FixErr.TheVariants as refusal
+use Rattle.desk.specs.declared.calls.CleanErr.{CleanErr}
+use Rattle.desk.specs.declared.calls.CleanErr.TheVariants as unclean
+use Rattle.desk.specs.Reads.{IsFault, IsBadRead}
+
+-- the numbers of a pool that starts with one chunk
+pub record IsOneChunk (c : Config) : Type 0 where
+  pub one : chunks_of c ≡ 1
+  pub frames : c.frames ≤ 8192
+
+-- whether the entry leaves homes, free frames and clocks
+abbrev pub is_quiet : Kind → Bool
+is_quiet (kind.Load p f) = false
+is_quiet (kind.Fix p f clock now) = true
+is_quiet (kind.Create p f start end now) = false
+is_quiet (kind.Put p at bytes start end) = false
+is_quiet (kind.Evict p f passed) = false
+is_quiet (kind.Write p lsn upto) = true
+is_quiet (kind.Move p from to) = false
+is_quiet (kind.Withdraw from) = false
+is_quiet (kind.Undo from) = false
+is_quiet (kind.Shrink chunks) = false
+is_quiet (kind.Grow chunks) = false
+is_quiet (kind.Resize bytes chunks) = true
+is_quiet (kind.Clean written skipped) = true
+is_quiet (kind.Check lsn) = true
+is_quiet (kind.WatchSet p) = true
+is_quiet (kind.WatchAt p f) = true
+is_quiet (kind.Occurred p arrived) = true
+is_quiet (kind.Unwatch p) = true
+is_quiet (kind.Dump pct ids) = true
+is_quiet (kind.Refused c why) = if is_late c why then false else true
+
+-- the caller's entry at the next place
+abbrev pub next_entry : {D : Type 0} → State D → Caller → Kind → Entry
+next_entry desk by k = record { place = mark desk.config.first desk.history + 1; caller = by.pass; number = by.number; kind = k }
+
+-- one entry was appended; images stay
+pub record IsAppended {D : Type 0} (old new : State D) (by : Caller) (k : Kind) : Type 0 where
+  pub config : new.config ≡ old.config
+  pub instance : new.instance ≡ old.instance
+  pub history : new.history ≡ next_entry old by k ∷ old.history
+  pub images : new.images ≡ old.images
+
+-- the page's bytes were read into the image of the frame
+pub record IsRead {D : Type 0} (told : D → PageId → Option (List ℕ)) (old new : State D) (p : PageId) (f : ℕ) : Type 0 where
+  pub content : Content
+  pub images : new.images ≡ slice_set old.images f content
+  pub read : IfSome (told old.disk p) (λ bytes. IsPage p bytes content)
+
+-- the page was read from the disk into the next frame
+pub record IsLoaded {D : Type 0} (told : D → PageId → Option (List ℕ)) (old new : State D) (by : Caller) (p : PageId) (f : ℕ) : Type 0 where
+  pub absent : home old.history p ≡ None
+  pub below : f < length old.images
+  pub fresh : (q : PageId) → home old.history q ≡ Some f → ⊥
+  pub frame : next_frame (book old.config old.history) ≡ Some f
+  pub config : new.config ≡ old.config
+  pub instance : new.instance ≡ old.instance
+  pub history : new.history ≡ next_entry old by (kind.Load p f) ∷ old.history
+  pub content : Content
+  pub images : new.images ≡ slice_set old.images f content
+  pub read : IfSome (told old.disk p) (λ bytes. IsPage p bytes content)
+
+-- a fix of a page that is in the frame was granted, and no device was used
+pub record IsHit {D : Type 0} (old new : State D) (by : Caller) (p : PageId) (now : ℕ) (g : Granted) : Type 0 where
+  pub resident : home old.history p ≡ Some g.frame
+  pub clock : g.clock ≡ change old.history g.frame
+  pub place : g.place ≡ mark old.config.first old.history + 1
+  pub entry : IsAppended old new by (kind.Fix p g.frame g.clock now)
+  pub disk : new.disk ≡ old.disk
+
+-- the page was read in before
+pub record IsMiss {D : Type 0} (told : D → PageId → Option (List ℕ)) (old new : State D) (by : Caller) (p : PageId) (now : ℕ) (g : Granted) : Type 0 where
+  pub mid : State D
+  pub loaded : IsLoaded told old mid by p g.frame
+  pub hit : IsHit mid new by p now g
+
+abbrev pub IsGrantedBy : {D : Type 0} → (D → PageId → Option (List ℕ)) → State D → State D → Caller → PageId → ℕ → Granted → Type 0
+IsGrantedBy told old new by p now g = IsHit old new by p now g ⊎ IsMiss told old new by p now g
+
+-- the fix was refused with this cause
+abbrev pub IsRefusedFix : {D : Type 0} → State D → State D → Caller → PageId → ℕ → Cause → Type 0
+IsRefusedFix old new by p now why = IsAppended old new by (kind.Refused (call.Fix p now) why)
+
+-- the page lies outside its space; no device was used
+pub record IsOutside {D : Type 0} (spaces : D → ℕ → Option ℕ) (old new : State D) (by : Caller) (p : PageId) (now pages : ℕ) : Type 0 where
+  pub count : pages ≡ pages_in (spaces old.disk) p.space
+  pub past_end : pages ≤ p.page
+  pub entry : IsRefusedFix old new by p now (cause.NoSuchPage pages)
+  pub disk : new.disk ≡ old.disk
+
+-- the disk's count of faults rose so in the read of a page that was not resident
+pub record IsFaulted {D : Type 0} (faults : D → ℕ) (old new : State D) (by : Caller) (p : PageId) (now before after : ℕ) : Type 0 where
+  pub absent : home old.history p ≡ None
+  pub fault : IsFault (faults old.disk) (faults new.disk) before after
+  pub entry : IsRefusedFix old new by p now (cause.DiskFault before after)
+
+-- the bytes that were read of a page that was not resident are no page of its id
+pub record IsUnsound {D : Type 0} (told : D → PageId → Option (List ℕ)) (old new : State D) (by : Caller) (p : PageId) (now : ℕ) (bad : BadPage) : Type 0 where
+  pub absent : home old.history p ≡ None
+  pub read : IsBadRead (told old.disk p) p bad
+  pub entry : IsRefusedFix old new by p now (cause.BadPage bad)
+
+-- why a page was not loaded
+abbrev pub IsLoadRefusal : {D : Type 0} → (D → PageId → Option (List ℕ)) → (D → ℕ) → State D → State D → Caller → PageId → ℕ → FixErr → Type 0
+IsLoadRefusal told faults old new by p now refusal.OutOfMemory = new ≡ old
+IsLoadRefusal told faults old new by p now (refusal.NoSuchPage pages) = ⊥
+IsLoadRefusal told faults old new by p now (refusal.DiskFault before after) = IsFaulted faults old new by p now before after
+IsLoadRefusal told faults old new by p now (refusal.BadPage bad) = IsUnsound told old new by p now bad
+
+-- why a fix was refused, and what stands then: nothing has changed, or the refusal was appended
+abbrev pub IsFixRefusal : {D : Type 0} → (D → PageId → Option (List ℕ)) → (D → ℕ → Option ℕ) → (D → ℕ) → State D → State D → Caller → PageId → ℕ → FixErr → Type 0
+IsFixRefusal told spaces faults old new by p now refusal.OutOfMemory = new ≡ old
+IsFixRefusal told spaces faults old new by p now (refusal.NoSuchPage pages) = IsOutside spaces old new by p now pages
+IsFixRefusal told spaces faults old new by p now (refusal.DiskFault before after) = (p.page < pages_in (spaces old.disk) p.space) × IsFaulted faults old new by p now before after
+IsFixRefusal told spaces faults old new by p now (refusal.BadPage bad) = (p.page < pages_in (spaces old.disk) p.space) × IsUnsound told old new by p now bad
+
+-- the image of the page's frame
+abbrev pub home_image : {D : Type 0} → State D → PageId → Option Content
+home_image desk p = option_and_then (λ f. slice_get desk.images f) (home desk.history p)
+
+-- nothing happened yet
+pub record IsFresh {D : Type 0} (desk : State D) (config : Config) (instance : ℕ) (disk : D) : Type 0 where
+  pub config_is : desk.config ≡ config
+  pub instance_is : desk.instance ≡ instance
+  pub history : desk.history ≡ []
+  pub frames : length desk.images ≡ config.frames
+  pub disk_is : desk.disk ≡ disk
+
+-- why a clean was refused, and what stands then
+abbrev pub IsCleanRefusal : {D : Type 0} → (D → ℕ) → State D → State D → Caller → ℕ → CleanErr → Type 0
+IsCleanRefusal faults old new by bound unclean.OutOfMemory = new ≡ old
+IsCleanRefusal faults old new by bound (unclean.DiskFault before after) =
+    IsFault (faults old.disk) (faults new.disk) before after × IsAppended old new by (kind.Refused (call.Clean bound) (cause.DiskFault before after))

@@ -1,0 +1,46 @@
+//! What the desk's calls take and answer.
+use page_ids::{BadPage, Words};
+
+/// Who makes a call: the pass, and the call's number among the pass's calls in this instance.
+#[derive(Clone, Copy, Debug, PartialEq, Eq)]
+pub struct Caller {
+    pub pass: u32,
+    pub number: u32,
+}
+
+/// A fix that was granted: the page's frame, the frame's modify clock, and the place of the entry.
+#[derive(Clone, Copy, Debug, PartialEq, Eq)]
+pub struct Granted {
+    pub frame: u32,
+    pub clock: u64,
+    pub place: u64,
+}
+
+/// Why a fix was refused.
+#[derive(Clone, Copy, Debug, PartialEq, Eq)]
+pub enum FixErr {
+    /// No memory, or no free frame. Nothing has changed.
+    OutOfMemory,
+    /// The page lies behind the last of the `pages` pages of its space.
+    NoSuchPage { pages: u32 },
+    /// The disk's count of faults rose from `before` to `after` in the read.
+    DiskFault { before: u64, after: u64 },
+    /// The bytes that were read are no page of this id.
+    BadPage(BadPage),
+}
+
+/// What a clean did: how many pages were written, and which frames were skipped because they were latched.
+#[derive(Debug, Drop)]
+pub struct Cleaned {
+    pub written: u32,
+    pub skipped: Words,
+}
+
+/// Why a clean was refused.
+#[derive(Clone, Copy, Debug, PartialEq, Eq)]
+pub enum CleanErr {
+    /// No memory. Nothing has changed.
+    OutOfMemory,
+    /// The disk's count of faults rose from `before` to `after` in the sync.
+    DiskFault { before: u64, after: u64 },
+}

@@ -1,0 +1,142 @@
+//! What a desk is made of at the start, and small steps on its parts.
+ghost use Rattle.std.specs.Prelude.{◌≡◌, ◌<◌, ◌≤◌, ◌+◌, ◌++◌, ◌∷◌, [], ℕ, Some, OnOk, OnErr, IfOk, IfErr, IfSome, vec_len, vec_capacity, length, replicate, slice_get, Err, None};
+ghost use Rattle.page_ids.specs.Size.{page_bytes};
+ghost use Rattle.page_ids.specs.Chunks.{rising};
+ghost use Rattle.page_ids.specs.Content.{Content};
+ghost use Rattle.page_ids.specs.Faults.{IsCounted};
+ghost use Rattle.page_ids.specs.Layout.{IsPage};
+ghost use Rattle.page_ids.specs.Same.{same_page};
+ghost use Rattle.std.specs.HashMap.{get};
+ghost use Rattle.std.specs.HashMap.{spare};
+ghost use Rattle.page_disk.specs.Disks.{IsInside, IsSameDisk};
+ghost use Rattle.desk.specs.Reads.{IsReadRefusal};
+
+use page_disk::PageDisk;
+use page_ids::{BadPage, Config, Failed, Image, OutOfMemory, PageId, PageSize, decode};
+use std::alloc::Global;
+use std::collections::{HashMap, VecDeque};
+
+/// Why a page was not read in.
+#[derive(Clone, Copy, Debug)]
+pub(crate) enum ReadErr {
+    DiskFault { before: u64, after: u64 },
+    BadPage(BadPage),
+}
+
+/// Appends where there is room.
+pub(crate) fn push_kept<T: Drop>(items: &mut Vec<T>, item: T)
+    requires { vec_len items.old < vec_capacity items.old }
+    ensures items { items.new.items ≡ items.old.items ++ item ∷ [] }
+    ensures len { vec_len items.new ≡ vec_len items.old + 1 }
+    ensures room { vec_capacity items.old ≤ vec_capacity items.new }
+{
+    match items.push(item) {
+        Ok(()) => (),
+        Err(_) => unreachable!(),
+    }
+}
+
+/// Reads the bytes of a page into the buffer.
+fn fill<D: PageDisk>(disk: &mut D, page: PageId, buffer: &mut Vec<u8>) -> Result<(), Failed>
+    requires inside { IsInside (D.space_pages disk.old) page }
+    requires buffer { vec_len buffer.old ≡ D.page_size disk.old }
+    ensures bytes { OnOk result (IfSome (D.told disk.old page) (λ bytes. buffer.new.items ≡ bytes)) }
+    ensures buffer { vec_len buffer.new ≡ vec_len buffer.old }
+    ensures disk { IsSameDisk D.page_size D.told D.space_pages D.fault_count disk.old disk.new }
+    ensures cause { IsCounted (D.fault_count disk.old) (D.fault_count disk.new) result }
+{
+    disk.read(page, buffer.as_mut_slice())
+}
+
+/// Reads a page through the buffer into the image, which stays where the disk fails or the bytes are no page.
+pub(crate) fn read_page<D: PageDisk>(
+    disk: &mut D,
+    page: PageId,
+    buffer: &mut Vec<u8>,
+    image: &mut Image,
+) -> Result<(), ReadErr>
+    requires inside { IsInside (D.space_pages disk.old) page }
+    requires buffer { vec_len buffer.old ≡ D.page_size disk.old }
+    requires image { length image.old.bytes ≡ D.page_size disk.old }
+    ensures read { OnOk result (IfSome (D.told disk.old page) (λ bytes. IsPage page bytes image.new)) }
+    ensures kept { OnErr result (image.new ≡ image.old) }
+    ensures refused { IfErr result (λ e. IsReadRefusal (D.told disk.old page) (D.fault_count disk.old) (D.fault_count disk.new) page e) }
+    ensures image { length image.new.bytes ≡ length image.old.bytes }
+    ensures buffer { vec_len buffer.new ≡ vec_len buffer.old }
+    ensures disk { IsSameDisk D.page_size D.told D.space_pages D.fault_count disk.old disk.new }
+{
+    let before = disk.faults();
+    if fill(disk, page, buffer).is_err() {
+        let after = disk.faults();
+        return Err(ReadErr::DiskFault { before, after });
+    }
+    match decode(page, buffer.as_slice(), image) {
+        Ok(()) => Ok(()),
+        Err(bad) => Err(ReadErr::BadPage(bad)),
+    }
+}
+
+/// The frames' numbers, rising.
+pub(crate) fn free_frames(alloc: Global, frames: u32) -> Result<VecDeque<u32>, OutOfMemory>
+    ensures { IfOk result (λ free. free.items ≡ rising 0 frames) }
+{
+    let mut free = VecDeque::new(alloc);
+    for frame in 0..frames {
+        free.push_back(frame)?;
+    }
+    Ok(free)
+}
+
+/// So many blank images.
+pub(crate) fn blank_images(
+    alloc: Global,
+    size: PageSize,
+    frames: u32,
+) -> Result<Vec<Image>, OutOfMemory>
+    ensures count { IfOk result (λ images. length images.items ≡ frames) }
+    ensures sized { IfOk result (λ images. (f : ℕ) (c : Content) → slice_get images.items f ≡ Some c → length c.bytes ≡ page_bytes size) }
+{
+    let mut images = Vec::new(alloc);
+    for _ in 0..frames {
+        let image = Image::blank(alloc, size)?;
+        images.push(image)?;
+    }
+    Ok(images)
+}
+
+/// The frames' tables of a new desk.
+#[derive(Drop)]
+pub(crate) struct Parts {
+    pub(crate) homes: HashMap<PageId, u32>,
+    pub(crate) free: VecDeque<u32>,
+    pub(crate) images: Vec<Image>,
+    pub(crate) clocks: Vec<u64>,
+    pub(crate) buffer: Vec<u8>,
+}
+
+impl Parts {
+    /// No page is resident, every frame is free, with a blank image and the clock 0.
+    pub(crate) fn new(alloc: Global, config: &Config) -> Result<Parts, OutOfMemory>
+        ensures homes { IfOk result (λ parts. (p : PageId) → get same_page parts.homes p ≡ None) }
+        ensures spare { IfOk result (λ parts. config.now.frames ≤ spare parts.homes) }
+        ensures free { IfOk result (λ parts. parts.free.items ≡ rising 0 config.now.frames) }
+        ensures count { IfOk result (λ parts. length parts.images.items ≡ config.now.frames) }
+        ensures sized { IfOk result (λ parts. (f : ℕ) (c : Content) → slice_get parts.images.items f ≡ Some c → length c.bytes ≡ page_bytes config.now.page) }
+        ensures clocks { IfOk result (λ parts. parts.clocks.items ≡ replicate config.now.frames 0) }
+        ensures buffer { IfOk result (λ parts. vec_len parts.buffer ≡ page_bytes config.now.page) }
+    {
+        let frames = config.frames as usize;
+        let free = free_frames(alloc, config.frames)?;
+        let images = blank_images(alloc, config.page, config.frames)?;
+        let homes = HashMap::with_capacity(alloc, frames)?;
+        let clocks = vec![in alloc; 0; frames]?;
+        let buffer = vec![in alloc; 0; config.page.bytes() as usize]?;
+        Ok(Parts {
+            homes,
+            free,
+            images,
+            clocks,
+            buffer,
+        })
+    }
+}

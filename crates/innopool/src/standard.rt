@@ -1,0 +1,102 @@
+//! Standard input as a source, and standard output as a sink.
+ghost use Rattle.std.specs.Prelude.{◌≡◌, ◌<◌, ◌≤◌, length, IfOk, None};
+ghost use Rattle.page_ids.specs.Faults.{IsCounted};
+ghost use Rattle.page_disk.specs.Streams.{Takes, Puts};
+ghost use Rattle.page_disk.specs.Calls.{CountsOnce};
+
+use page_disk::{FaultCount, Sink, Source};
+use page_ids::Failed;
+use std::io::{self, Read, Write};
+
+/// Bytes that one call moves at most: many times a short script, and within a count of 32 bits.
+const PIECE: usize = 0x1_0000;
+
+/// The system's number for the error of a descriptor that isn't open (`EBADF`).
+const NOT_OPEN: i32 = 9;
+
+/// A reader as a source. Tells no content.
+#[derive(Drop)]
+pub struct InputStream<R: Read + Drop> {
+    reader: R,
+    faults: FaultCount,
+}
+
+impl<R: Read + Drop> InputStream<R> {
+    pub fn new(reader: R) -> InputStream<R>
+        ensures { result.faults ≡ 0 }
+    {
+        InputStream {
+            reader,
+            faults: FaultCount::new(),
+        }
+    }
+}
+
+impl<R: Read + Drop> Source for InputStream<R> {
+    ghost left = { λ _. None };
+
+    ghost fault_count = { λ s. s.faults };
+
+    /// A reader whose descriptor is closed reads as empty.
+    fn take(&mut self, out: &mut [u8]) -> Result<u32, Failed>
+        requires { 0 < length out.old }
+        ensures bytes { Takes None None result out.new }
+        ensures cause { IsCounted self.old.faults self.new.faults result }
+        ensures once { CountsOnce self.old.faults self.new.faults result }
+    {
+        let most = out.len().min(PIECE);
+        match self.reader.read(&mut out[..most]) {
+            Ok(n) => Ok(n as u32),
+            Err(error) if error.raw_os_error() == Some(NOT_OPEN) => Ok(0),
+            Err(_) => Err(self.faults.fail()),
+        }
+    }
+}
+
+/// A writer as a sink. Tells no content.
+#[derive(Drop)]
+pub struct OutputStream<W: Write + Drop> {
+    writer: W,
+    faults: FaultCount,
+}
+
+impl<W: Write + Drop> OutputStream<W> {
+    pub fn new(writer: W) -> OutputStream<W>
+        ensures { result.faults ≡ 0 }
+    {
+        OutputStream {
+            writer,
+            faults: FaultCount::new(),
+        }
+    }
+
+    /// Writes from the front of a piece and flushes, so that no later call has to tell of a fault of this one.
+    fn write(&mut self, piece: &[u8]) -> io::Result<usize>
+        ensures most { IfOk result (λ n. (n ≤ length piece.now) × (n ≤ 65536)) }
+        ensures same { self.new.faults ≡ self.old.faults }
+    {
+        let most = piece.len().min(PIECE);
+        let n = self.writer.write(&piece[..most])?;
+        self.writer.flush()?;
+        Ok(n)
+    }
+}
+
+impl<W: Write + Drop> Sink for OutputStream<W> {
+    ghost held = { λ _. None };
+
+    ghost fault_count = { λ s. s.faults };
+
+    /// A writer that takes nothing of a piece has failed.
+    fn put(&mut self, piece: &[u8]) -> Result<u32, Failed>
+        requires { 0 < length piece.now }
+        ensures bytes { Puts None None result piece.now }
+        ensures cause { IsCounted self.old.faults self.new.faults result }
+        ensures once { CountsOnce self.old.faults self.new.faults result }
+    {
+        match self.write(piece) {
+            Ok(n) if n > 0 => Ok(n as u32),
+            _ => Err(self.faults.fail()),
+        }
+    }
+}

@@ -1,0 +1,88 @@
+//! The tablespace file as a disk of pages.
+ghost use Rattle.std.specs.Prelude.{◌≡◌, length, IfOk};
+ghost use Rattle.page_ids.specs.Faults.{IsCounted};
+ghost use Rattle.page_disk.specs.Disks.{IsInside, IsSameDisk};
+ghost use Rattle.page_disk.specs.Calls.{CountsOnce};
+ghost use Rattle.innopool.specs.Tablespaces.{size_of, told_of, spaces_of, faults_of};
+
+use page_disk::{FaultCount, PageDisk};
+use page_ids::{Failed, PageId, PageSize};
+use std::fs::File;
+use std::io;
+use std::os::unix::fs::FileExt;
+
+/// A tablespace file as the only space of a disk: page p stands at p times the page size. Tells no content.
+#[derive(Drop)]
+pub struct TablespaceFile {
+    file: File,
+    space: u32,
+    size: PageSize,
+    pages: u32,
+    faults: FaultCount,
+}
+
+impl TablespaceFile {
+    /// The disk of an open file. Its pages are the whole pages of the file's length now, at most 2^32 - 1.
+    pub fn new(file: File, space: u32, size: PageSize) -> io::Result<TablespaceFile>
+        ensures size { IfOk result (λ disk. disk.size ≡ size) }
+        ensures space { IfOk result (λ disk. disk.space ≡ space) }
+        ensures faults { IfOk result (λ disk. disk.faults ≡ 0) }
+    {
+        let whole = file.metadata()?.len() / u64::from(size.bytes());
+        Ok(TablespaceFile {
+            file,
+            space,
+            size,
+            pages: whole.min(0xffff_ffff) as u32,
+            faults: FaultCount::new(),
+        })
+    }
+}
+
+impl PageDisk for TablespaceFile {
+    ghost page_size = { size_of };
+
+    ghost told = { told_of };
+
+    ghost space_pages = { spaces_of };
+
+    ghost fault_count = { faults_of };
+
+    /// A file that ends before the page does has failed.
+    fn read(&mut self, page: PageId, out: &mut [u8]) -> Result<(), Failed>
+        requires inside { IsInside (spaces_of self.old) page }
+        requires size { length out.old ≡ size_of self.old }
+        ensures same { IsSameDisk size_of told_of spaces_of faults_of self.old self.new }
+        ensures cause { IsCounted (faults_of self.old) (faults_of self.new) result }
+        ensures once { CountsOnce (faults_of self.old) (faults_of self.new) result }
+    {
+        let at = u64::from(page.page) * u64::from(self.size.bytes());
+        match self.file.read_exact_at(out, at) {
+            Ok(()) => Ok(()),
+            Err(_) => Err(self.faults.fail()),
+        }
+    }
+
+    fn sync(&mut self) -> Result<(), Failed>
+        ensures same { IsSameDisk size_of told_of spaces_of faults_of self.old self.new }
+        ensures cause { IsCounted (faults_of self.old) (faults_of self.new) result }
+        ensures once { CountsOnce (faults_of self.old) (faults_of self.new) result }
+    {
+        match self.file.sync_all() {
+            Ok(()) => Ok(()),
+            Err(_) => Err(self.faults.fail()),
+        }
+    }
+
+    fn pages(&self, space: u32) -> Option<u32> {
+        if self.space == space {
+            Some(self.pages)
+        } else {
+            None
+        }
+    }
+
+    fn faults(&self) -> u64 {
+        self.faults.get()
+    }
+}

@@ -1,0 +1,9 @@
+pub mod Size
+pub mod Same
+pub mod Chunks
+pub mod Faults
+pub mod FrameWord
+pub mod Spelling
+pub mod Content
+pub mod Layout
+pub mod Refusal

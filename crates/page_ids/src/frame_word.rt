@@ -1,0 +1,59 @@
+//! The word of a frame: its fixes, its latch, whether a page is resident in it, and its modify clock.
+ghost use Rattle.std.specs.Prelude.{◌≡◌, Some};
+ghost use Rattle.page_ids.specs.FrameWord.{fixes_of, is_latched, is_resident, clock_of, word_text};
+
+use std::fmt;
+
+/// What one atomic word says of a frame.
+///
+/// Bits 0 to 13 count the fixes, bit 14 is the latch, bit 15 says that a page is resident, and bits 16 to 63 are the modify clock.
+#[derive(Clone, Copy, Debug, PartialEq, Eq)]
+pub struct Word {
+    pub bits: u64,
+}
+
+impl Word {
+    /// The fixes of the frame, below 16384 (buf0buf's `buf_fix_count`).
+    pub fn fixes(self) -> u32
+        ensures { result ≡ fixes_of self }
+    {
+        (self.bits % 0x4000) as u32
+    }
+
+    /// Whether the frame is latched for a change.
+    pub fn latched(self) -> bool
+        ensures { result ≡ is_latched self }
+    {
+        self.bits / 0x4000 % 2 == 1
+    }
+
+    /// Whether a page is resident in the frame.
+    pub fn resident(self) -> bool
+        ensures { result ≡ is_resident self }
+    {
+        self.bits / 0x8000 % 2 == 1
+    }
+
+    /// The modify clock: the place of the event that last changed the frame's page or image (buf0buf's `modify_clock`).
+    pub fn clock(self) -> u64
+        ensures { result ≡ clock_of self }
+    {
+        self.bits / 0x1_0000
+    }
+}
+
+/// Clock, flags and fixes with slashes between them, as `5/R/1`; the flags are `-`, `L`, `R` or `RL`.
+impl fmt::Display for Word {
+    ghost output = { λ w. Some (word_text w) };
+
+    fn fmt<W: fmt::Write>(&self, f: &mut fmt::Formatter<W>) -> fmt::Result {
+        let clock = self.clock();
+        let fixes = self.fixes();
+        match (self.resident(), self.latched()) {
+            (false, false) => write!(f, "{clock}/-/{fixes}"),
+            (false, true) => write!(f, "{clock}/L/{fixes}"),
+            (true, false) => write!(f, "{clock}/R/{fixes}"),
+            (true, true) => write!(f, "{clock}/RL/{fixes}"),
+        }
+    }
+}

@@ -1,0 +1,89 @@
+//! Pages as they lie on a disk.
+use super::Image;
+use crate::ids::{PageId, PageSize};
+use crate::layout::{BadPage, decode};
+use std::alloc::Global;
+use std::test::Fail;
+
+const PAGE: PageId = PageId { space: 0, page: 7 };
+
+/// A page with these fields, and 9 in every byte of the body.
+fn written(number: u32, space: u32, lsn: u64, tail: u32) -> [u8; 4096] {
+    let mut page = [9; 4096];
+    page[4..8].copy_from_slice(&number.to_be_bytes());
+    page[16..24].copy_from_slice(&lsn.to_be_bytes());
+    page[34..38].copy_from_slice(&space.to_be_bytes());
+    page[4092..4096].copy_from_slice(&tail.to_be_bytes());
+    page
+}
+
+#[test]
+fn the_first_fault_is_told_and_nothing_changes(rt: HostRuntime) -> Result<(), Fail> {
+    for (number, space, tail, answer) in [
+        (8, 0, 8214, Err(BadPage::Number { found: 8 })),
+        (7, 5, 8214, Err(BadPage::Space { found: 5 })),
+        (
+            7,
+            0,
+            0,
+            Err(BadPage::Torn {
+                head: 8214,
+                tail: 0,
+            }),
+        ),
+        (8, 5, 0, Err(BadPage::Number { found: 8 })),
+        (7, 0, 8214, Ok(())),
+    ] {
+        let mut image = Image::blank(rt.alloc(), PageSize::Kib4)?;
+        let page = written(number, space, 8214, tail);
+        assert_eq!(rt; decode(PAGE, &page, &mut image), answer);
+        let (lsn, body) = if answer.is_ok() { (8214, 9) } else { (0, 0) };
+        assert_eq!(rt; image.lsn(), lsn);
+        assert_eq!(rt; image.bytes[38], body);
+    }
+    Ok(())
+}
+
+fn zeros() -> [u8; 4096] {
+    [0; 4096]
+}
+
+#[test]
+fn zeros_are_a_page_of_every_id(rt: HostRuntime) -> Result<(), Fail> {
+    let mut image = Image::blank(rt.alloc(), PageSize::Kib4)?;
+    let page = written(7, 0, 8214, 8214);
+    assert_eq!(rt; decode(PAGE, &page, &mut image), Ok(()));
+    assert_eq!(rt; image.lsn(), 8214);
+    assert_eq!(rt; decode(PAGE, &zeros(), &mut image), Ok(()));
+    assert_eq!(rt; image.lsn(), 0);
+    assert!(rt; image.bytes.iter().all(|byte| *byte == 0));
+    Ok(())
+}
+
+/// Page 0:4 with the LSN 20322860, as MySQL writes an index page but for its body.
+fn written_by_mysql() -> [u8; 16384] {
+    let mut page = [7; 16384];
+    page[0..8].copy_from_slice(&[0xC0, 0xFF, 0xEE, 0x11, 0, 0, 0, 4]);
+    page[16..26].copy_from_slice(&[0, 0, 0, 0, 0x01, 0x36, 0x1A, 0x2C, 0x45, 0xBF]);
+    page[34..38].copy_from_slice(&[0, 0, 0, 0]);
+    page[16380..16384].copy_from_slice(&[0x01, 0x36, 0x1A, 0x2C]);
+    page
+}
+
+#[test]
+fn a_page_as_mysql_writes_it(rt: HostRuntime) -> Result<(), Fail> {
+    let mut image = Image::blank(rt.alloc(), PageSize::Kib16)?;
+    let page = written_by_mysql();
+    let id = PageId { space: 0, page: 4 };
+    assert_eq!(rt; decode(id, &page, &mut image), Ok(()));
+    assert_eq!(rt; image.lsn(), 20_322_860);
+    assert_eq!(rt; image.size(), 16384);
+    assert_eq!(rt; &image.bytes[0..8], [0; 8].as_slice());
+    assert_eq!(rt; &image.bytes[24..26], [0x45, 0xBF].as_slice());
+    let mut body = [0; 4];
+    image.copy_out(38, &mut body);
+    assert_eq!(rt; body, [7; 4]);
+    image.copy_out(16372, &mut body);
+    assert_eq!(rt; body, [7; 4]);
+    Ok(())
+}

@@ -1,0 +1,17 @@
+use Rattle.std.proofs.Common.{◌≡◌, ◌≤◌, ◌+◌, length}
+use Rattle.redo_mark.specs.Device.{Tells}
+use Rattle.redo_mark.specs.Pending.{joined}
+use Rattle.redo_mark.proofs.Telling.{IsWriting}
+use Rattle.redo_mark.proofs.redo.write_all.Given as goal
+
+abbrev pub invariant-loop-bytes : goal.invariant-loop-bytes
+invariant-loop-bytes g l =
+    (goal.iterator-loop-bytes g).can_next l.bytes-iterator ×
+    (goal.iterator-loop-bytes g).is_finite l.bytes-iterator ×
+    (l.at + length (joined l.bytes-iterator) ≡ l.fn.from + length (joined l.fn.pending)) ×
+    (l.fn.from ≤ l.at) ×
+    (l.at ≤ g.R.RedoDisk.reach l.disk) ×
+    (g.R.RedoDisk.reach l.fn.disk ≤ g.R.RedoDisk.reach l.disk) ×
+    (g.R.RedoDisk.opened l.disk ≡ g.R.RedoDisk.opened l.fn.disk) ×
+    (g.R.RedoDisk.fault_count l.fn.disk ≤ g.R.RedoDisk.fault_count l.disk) ×
+    Tells (g.R.RedoDisk.told l.fn.disk) (g.R.RedoDisk.told l.disk) (IsWriting l.fn.from l.at (joined l.bytes-iterator) (joined l.fn.pending))

@@ -1,0 +1,85 @@
+-- What is known of a log: how far it is durable, where it ends, and its bytes from the end of its opening on.
+use Rattle.std.specs.Prelude.{ℕ, List, [], ◌++◌, ◌≡◌, ◌≤◌, ◌+◌, ◌-◌, ◌^◌, length, take, Option, None, IfSome, MatchOption, IsSomeAnd}
+use Rattle.page_ids.specs.Faults.{Rose}
+use Rattle.redo_mark.specs.Device.{Told, Tells, IsOpening}
+use Rattle.redo_mark.specs.Records.{AreRecords}
+use Rattle.redo_mark.specs.declared.record.Span.{Span}
+
+-- What a caller has seen of the log: as LSNs its first byte, its end at the opening, its durable mark and its end; the device's count
+-- of faults; and its bytes from the opening's end on, which are known where the device tells.
+pub record Seen : Type 0 where
+  pub first : ℕ
+  pub opened : ℕ
+  pub durable : ℕ
+  pub end : ℕ
+  pub faults : ℕ
+  pub bytes : Option (List ℕ)
+
+-- nothing but more bytes behind those that were there
+abbrev pub Grows : Option (List ℕ) → Option (List ℕ) → Type 0
+Grows old new = MatchOption old (new ≡ None)
+    (λ before. IsSomeAnd new (λ bytes. (more : List ℕ) × (bytes ≡ before ++ more)))
+
+-- the same log at a later moment: no mark fell, and no byte changed
+pub record IsLater (old new : Seen) : Type 0 where
+  pub first : new.first ≡ old.first
+  pub opened : new.opened ≡ old.opened
+  pub durable : old.durable ≤ new.durable
+  pub end : old.end ≤ new.end
+  pub faults : old.faults ≤ new.faults
+  pub bytes : Grows old.bytes new.bytes
+
+-- this piece stands in the log at this LSN
+pub record Holds (seen : Seen) (piece : List ℕ) (start : ℕ) : Type 0 where
+  pub behind : seen.opened ≤ start
+  pub within : start + length piece ≤ seen.end
+  pub there : IfSome seen.bytes (λ bytes. (before after : List ℕ)
+      × (bytes ≡ before ++ piece ++ after) × (seen.opened + length before ≡ start))
+
+-- what the device keeps is what stood there at the opening, and behind it the log's bytes up to the durable mark
+abbrev pub IsKept : Seen → Option Told → Type 0
+IsKept seen told = IfSome told (λ t. IsSomeAnd seen.bytes (λ bytes. (front rest : List ℕ)
+    × (t.kept ≡ front ++ take (seen.durable - seen.opened) bytes ++ rest)
+    × (seen.first + length front ≡ seen.opened) × (seen.opened + length bytes ≡ seen.end)))
+
+-- the log's bytes are whole records
+abbrev pub IsWhole : Seen → Type 0
+IsWhole seen = IfSome seen.bytes (AreRecords seen.opened)
+
+-- where the log began on a device as at its opening, that keeps what stood there, the log's bytes up to the durable mark, and nothing else
+abbrev pub IsAllKept : ℕ → Option Told → Seen → Option Told → Type 0
+IsAllKept opened opening seen told = Tells opening told (λ s t. IsOpening opened s →
+    IsSomeAnd seen.bytes (λ bytes. t.kept ≡ s.kept ++ take (seen.durable - seen.opened) bytes))
+
+-- the device, whose first byte has the first LSN, keeps this piece at this LSN
+abbrev pub IsKeptAt : ℕ → List ℕ → ℕ → Option Told → Type 0
+IsKeptAt first piece start told = IfSome told (λ t. (before after : List ℕ)
+    × (t.kept ≡ before ++ piece ++ after) × (first + length before ≡ start))
+
+-- nothing was appended yet to a log whose first byte has this LSN, on a device of this length and count of faults
+pub record IsFresh (seen : Seen) (lsn len count : ℕ) : Type 0 where
+  pub first : seen.first ≡ lsn
+  pub opened : seen.opened ≡ lsn + len
+  pub durable : seen.durable ≡ seen.opened
+  pub end : seen.end ≡ seen.opened
+  pub faults : seen.faults ≡ count
+  pub bytes : IfSome seen.bytes (λ bytes. bytes ≡ [])
+
+-- where a record of so many bytes was put by a call before and after which the log ended at these LSNs
+pub record IsSpan (before after count : ℕ) (s : Span) : Type 0 where
+  pub start : before ≤ s.start
+  pub end : s.end ≡ s.start + count
+  pub within : s.end ≤ after
+  pub limit : after ≤ 2 ^ 63
+
+-- the counts before and after a device's call that failed, within a call in which the count went from `old` to `new`
+pub record IsFault (old new before after : ℕ) : Type 0 where
+  pub first : old ≤ before
+  pub rose : Rose before after
+  pub last : after ≤ new
+
+-- a log, its device, and what that told at the opening
+pub record State (R : Type 0) : Type 0 where
+  pub seen : Seen
+  pub disk : R
+  pub opening : Option Told

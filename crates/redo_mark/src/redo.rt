@@ -1,0 +1,340 @@
+//! The log: its marks, its device, and the records that are not durable.
+//!
+//! Who says of it no more than `IsLater`, `Holds`, `IsSpan`, `IsFault` and the number of a `Covered` says nothing that another
+//! caller's appends and covers could break.
+ghost use Rattle.std.specs.Prelude.{◌≡◌, ◌≤◌, ◌<◌, ◌+◌, ◌++◌, ◌^◌, ℕ, List, length, OnOk, OnErr, IfOk, IfErr, IsOk, IsErr};
+ghost use Rattle.std.specs.Prelude.{Err, vec_len, vec_capacity};
+ghost use Rattle.std.specs.Int.{w64, to_be_bytes};
+ghost use Rattle.redo_mark.specs.Device.{Told, Tells, IsSynced, IsSame};
+ghost use Rattle.redo_mark.specs.Records.{sealed};
+ghost use Rattle.redo_mark.specs.Logs.{IsFresh, IsLater, Holds, IsKept, IsAllKept, IsKeptAt, IsWhole, IsSpan, IsFault};
+ghost use Rattle.redo_mark.specs.Pending.{IsAppended, IsUncovered, IsMadeDurable, IsDraft, joined};
+
+use crate::device::RedoDisk;
+use crate::record::{Draft, Span};
+use page_ids::OutOfMemory;
+use std::alloc::Global;
+use std::collections::LinkedList;
+use std::marker::Model;
+use std::snapshot::Snapshot;
+
+/// No LSN is above this.
+const LSN_MAX: u64 = 1 << 63;
+
+/// Shows that the log is durable up to an LSN: the device keeps every byte of it below. Only `Redo::cover` makes one.
+#[derive(Debug, Drop)]
+pub struct Covered {
+    upto: u64,
+}
+
+impl Model for Covered {
+    ghost use Rattle.std.specs.Prelude.{ℕ};
+
+    ghost Value = { ℕ };
+
+    ghost view = { λ c. c.upto };
+}
+
+impl Covered {
+    /// The durable mark that was shown (InnoDB's `log_t::flushed_to_disk_lsn`).
+    pub fn upto(&self) -> u64
+        ensures { result ≡ self.now }
+    {
+        self.upto
+    }
+}
+
+/// The log, which ends here, has no LSN left for a record: none is above 2^63.
+#[derive(Clone, Copy, Debug, PartialEq, Eq)]
+pub struct LogSpent {
+    pub end: u64,
+}
+
+/// Why the log was not made durable up to an LSN: the first of these that is so.
+#[derive(Clone, Copy, Debug, PartialEq, Eq)]
+pub enum CoverErr {
+    /// The log ends before this LSN.
+    BeyondEnd { lsn: u64, end: u64 },
+    /// The device failed; these are its counts of faults before and after the call that failed.
+    Fault { before: u64, after: u64 },
+}
+
+/// What is left of a log: its device, its end and its durable mark. Records behind the mark are gone.
+#[derive(Debug, Drop)]
+pub struct RedoEnd<R: RedoDisk> {
+    pub disk: R,
+    pub end: u64,
+    pub durable: u64,
+}
+
+/// The counts of faults before and after a device's call that failed.
+struct Fault {
+    before: u64,
+    after: u64,
+}
+
+/// The log on its device, with the records that are not durable.
+#[derive(Drop)]
+pub struct Redo<R: RedoDisk> {
+    disk: R,
+    /// The device as it was at the start, for contracts alone.
+    opening: Snapshot<R>,
+    first: u64,
+    durable: u64,
+    end: u64,
+    pending: LinkedList<Vec<u8>>,
+}
+
+impl<R: RedoDisk> Model for Redo<R> {
+    ghost use Rattle.std.specs.Prelude.{◌+◌, ◌-◌};
+    ghost use Rattle.redo_mark.specs.Logs.{State};
+    ghost use Rattle.redo_mark.specs.Pending.{IsLog, bytes_of};
+
+    ghost Value = { State R };
+
+    ghost view = { λ r. record {
+      seen = record {
+        first = r.first;
+        opened = r.first + R.opened r.disk;
+        durable = r.durable;
+        end = r.end;
+        faults = R.fault_count r.disk;
+        bytes = bytes_of (R.opened r.disk) (r.durable - r.first) (R.told r.disk) r.pending;
+      };
+      disk = r.disk;
+      opening = R.told r.opening.value;
+    } };
+
+    ghost invariant = { λ r. IsLog r.first r.durable r.end (R.opened r.disk) (R.reach r.disk)
+        (R.told r.opening.value) (R.told r.disk) r.pending };
+}
+
+/// How many bytes the record in the node has but for its end LSN.
+fn draft_len(node: &LinkedList<Vec<u8>>) -> u64
+    requires { IsDraft node.now }
+    ensures { result ≡ length (joined node.now) }
+{
+    match node.front() {
+        Some(bytes) => bytes.len() as u64,
+        None => unreachable!(),
+    }
+}
+
+/// Puts the end LSN behind the record; there is room for it.
+fn seal(bytes: &mut Vec<u8>, end: u64)
+    requires { vec_len bytes.old + 8 ≤ vec_capacity bytes.old }
+    ensures { bytes.new.items ≡ bytes.old.items ++ to_be_bytes w64 end }
+{
+    match bytes.extend_from_slice(&end.to_be_bytes()) {
+        Ok(()) => (),
+        Err(_) => unreachable!(),
+    }
+}
+
+/// Puts the end LSN behind the record in the node.
+fn seal_node(node: &mut LinkedList<Vec<u8>>, end: u64)
+    requires { IsDraft node.old }
+    ensures bytes { joined node.new ≡ joined node.old ++ to_be_bytes w64 end }
+    ensures len { length node.new ≡ 1 }
+{
+    match node.front_mut() {
+        Some(bytes) => seal(bytes, end),
+        None => unreachable!(),
+    }
+}
+
+/// Writes the records one behind the other, from this offset on.
+fn write_all<R: RedoDisk>(
+    disk: &mut R,
+    from: u64,
+    pending: &LinkedList<Vec<u8>>,
+) -> Result<(), Fault>
+    requires within { from ≤ R.reach disk.old }
+    requires limit { from + length (joined pending.now) ≤ 2 ^ 63 }
+    ensures ok { OnOk result (Tells (R.told disk.old) (R.told disk.new) (IsAppended from (joined pending.now))) }
+    ensures err { OnErr result (Tells (R.told disk.old) (R.told disk.new)
+        (IsUncovered from (from + length (joined pending.now)))) }
+    ensures reach { R.reach disk.old ≤ R.reach disk.new }
+    ensures reached { OnOk result (from + length (joined pending.now) ≤ R.reach disk.new) }
+    ensures opened { R.opened disk.new ≡ R.opened disk.old }
+    ensures later { R.fault_count disk.old ≤ R.fault_count disk.new }
+    ensures fault { IfErr result (λ f. IsFault (R.fault_count disk.old) (R.fault_count disk.new) f.before f.after
+        × (f.after ≡ R.fault_count disk.new)) }
+{
+    let mut at = from;
+    for bytes in pending.iter() {
+        let before = disk.faults();
+        if disk.write_at(at, bytes.as_slice()).is_err() {
+            let after = disk.faults();
+            return Err(Fault { before, after });
+        }
+        at += bytes.len() as u64;
+    }
+    Ok(())
+}
+
+/// Syncs the device.
+fn sync<R: RedoDisk>(disk: &mut R) -> Result<(), Fault>
+    ensures ok { OnOk result (Tells (R.told disk.old) (R.told disk.new) IsSynced) }
+    ensures err { OnErr result (Tells (R.told disk.old) (R.told disk.new) IsSame) }
+    ensures reach { R.reach disk.old ≤ R.reach disk.new }
+    ensures opened { R.opened disk.new ≡ R.opened disk.old }
+    ensures later { R.fault_count disk.old ≤ R.fault_count disk.new }
+    ensures fault { IfErr result (λ f. IsFault (R.fault_count disk.old) (R.fault_count disk.new) f.before f.after
+        × (f.after ≡ R.fault_count disk.new)) }
+{
+    let before = disk.faults();
+    if disk.sync().is_err() {
+        let after = disk.faults();
+        return Err(Fault { before, after });
+    }
+    Ok(())
+}
+
+/// Writes the records one behind the other, and syncs.
+fn write_through<R: RedoDisk>(
+    disk: &mut R,
+    from: u64,
+    pending: &LinkedList<Vec<u8>>,
+) -> Result<(), Fault>
+    requires within { from ≤ R.reach disk.old }
+    requires limit { from + length (joined pending.now) ≤ 2 ^ 63 }
+    ensures ok { OnOk result (Tells (R.told disk.old) (R.told disk.new) (IsMadeDurable from (joined pending.now))) }
+    ensures err { OnErr result (Tells (R.told disk.old) (R.told disk.new)
+        (IsUncovered from (from + length (joined pending.now)))) }
+    ensures reach { R.reach disk.old ≤ R.reach disk.new }
+    ensures reached { OnOk result (from + length (joined pending.now) ≤ R.reach disk.new) }
+    ensures opened { R.opened disk.new ≡ R.opened disk.old }
+    ensures later { R.fault_count disk.old ≤ R.fault_count disk.new }
+    ensures fault { IfErr result (λ f. IsFault (R.fault_count disk.old) (R.fault_count disk.new) f.before f.after
+        × (f.after ≡ R.fault_count disk.new)) }
+{
+    write_all(disk, from, pending)?;
+    sync(disk)
+}
+
+impl<R: RedoDisk> Redo<R> {
+    /// The log on a device, all of it durable. `first` is the LSN of the device's first byte.
+    pub fn start(alloc: Global, disk: R, first: u64) -> Result<Redo<R>, (OutOfMemory, R)>
+        requires limit { first + R.opened disk ≤ 2 ^ 63 }
+        ensures fresh { IfOk result (λ r. IsFresh r.seen first (R.opened disk) (R.fault_count disk)) }
+        ensures kept { IfOk result (λ r. IsKept r.seen (R.told r.disk)) }
+        ensures disk { IfOk result (λ r. (r.disk ≡ disk) × (r.opening ≡ R.told disk)) }
+        ensures err { IfErr result (λ e. e.1 ≡ disk) }
+    {
+        let end = first + disk.end();
+        let opening = Snapshot::of(&disk);
+        Ok(Redo {
+            disk,
+            opening,
+            first,
+            durable: end,
+            end,
+            pending: LinkedList::new(alloc),
+        })
+    }
+
+    /// Appends the record of a draft at the log's end, in memory: no device is used, and no memory is taken.
+    ///
+    /// It is refused exactly where the record would end above 2^63; the draft is then dropped (InnoDB's `log_buffer_reserve`).
+    pub fn append(&mut self, draft: Draft) -> Result<Span, LogSpent>
+        ensures span { IfOk result (IsSpan self.old.seen.end self.new.seen.end (length draft + 8)) }
+        ensures record { IfOk result (λ s. Holds self.new.seen (sealed draft s.start) s.start) }
+        ensures later { IsLater self.old.seen self.new.seen }
+        ensures kept { IsKept self.new.seen (R.told self.new.disk) }
+        ensures whole { IsWhole self.new.seen }
+        ensures disk { (self.new.disk ≡ self.old.disk) × (self.new.opening ≡ self.old.opening) }
+        ensures spent { IfErr result (λ e. (self.old.seen.end ≤ e.end) × (e.end ≤ self.new.seen.end)
+            × (2 ^ 63 < e.end + length draft + 8)) }
+        ensures full { 2 ^ 63 < self.old.seen.end + length draft + 8 → IsErr result }
+        ensures err { OnErr result (self.new ≡ self.old) }
+    {
+        let mut node = draft.into_node();
+        let start = self.end;
+        let len = draft_len(&node) + 8;
+        if LSN_MAX - start < len {
+            return Err(LogSpent { end: start });
+        }
+        let end = start + len;
+        seal_node(&mut node, end);
+        match self.pending.append(&mut node) {
+            Ok(()) => (),
+            Err(_) => unreachable!(),
+        }
+        self.end = end;
+        Ok(Span { start, end })
+    }
+
+    /// Makes the log durable up to an LSN at least. It takes no memory.
+    ///
+    /// Where the LSN is durable no device is used. Else the records that aren't are written in their order, each by one write, the device
+    /// syncs, and only then the durable mark rises, to the end that was written (InnoDB's `log_write_up_to`). After a fault nothing more is
+    /// durable, and the same bytes are written again next time, at the same places.
+    pub fn cover(&mut self, lsn: u64) -> Result<Covered, CoverErr>
+        ensures ok { IfOk result (λ c. (c ≡ self.new.seen.durable) × (lsn ≤ c) × (c ≤ self.new.seen.end)) }
+        ensures kept { IsKept self.new.seen (R.told self.new.disk) }
+        ensures whole { IsWhole self.new.seen }
+        ensures later { IsLater self.old.seen self.new.seen }
+        ensures opening { self.new.opening ≡ self.old.opening }
+        ensures idle { lsn ≤ self.old.seen.durable → (self.new ≡ self.old) × IsOk result }
+        ensures all { self.old.seen.durable < lsn → OnOk result (self.new.seen.durable ≡ self.old.seen.end) }
+        ensures err { OnErr result (self.new.seen ≡ record self.old.seen { faults = self.new.seen.faults }) }
+        ensures beyond { (l end : ℕ) → result ≡ Err (CoverErr.BeyondEnd l end)
+            → (l ≡ lsn) × (self.old.seen.end ≤ end) × (end < lsn) × (self.new ≡ self.old) }
+        ensures far { self.old.seen.end < lsn → result ≡ Err (CoverErr.BeyondEnd lsn self.old.seen.end) }
+        ensures fault { (before after : ℕ) → result ≡ Err (CoverErr.Fault before after)
+            → IsFault self.old.seen.faults self.new.seen.faults before after
+            × (after ≡ self.new.seen.faults) × (lsn ≤ self.new.seen.end) }
+    {
+        if lsn > self.end {
+            return Err(CoverErr::BeyondEnd { lsn, end: self.end });
+        }
+        if lsn <= self.durable {
+            return Ok(Covered { upto: self.durable });
+        }
+        let from = self.durable - self.first;
+        match write_through(&mut self.disk, from, &self.pending) {
+            Ok(()) => (),
+            Err(Fault { before, after }) => return Err(CoverErr::Fault { before, after }),
+        }
+        self.pending.clear();
+        self.durable = self.end;
+        Ok(Covered { upto: self.durable })
+    }
+
+    /// The LSN up to which the log is durable.
+    pub fn durable(&self) -> u64
+        ensures { result ≡ self.now.seen.durable }
+    {
+        self.durable
+    }
+
+    /// The LSN behind the last record.
+    pub fn end(&self) -> u64
+        ensures { result ≡ self.now.seen.end }
+    {
+        self.end
+    }
+
+    /// Ends the log and hands its device back. Records that are not durable are dropped.
+    pub fn close(self) -> RedoEnd<R>
+        ensures disk { result.disk ≡ self.disk }
+        ensures end { result.end ≡ self.seen.end }
+        ensures durable { (result.durable ≡ self.seen.durable) × (result.durable ≤ result.end) }
+        ensures kept { IsKept self.seen (R.told result.disk) }
+        ensures whole { IsWhole self.seen }
+        ensures all { IsAllKept (R.opened result.disk) self.opening self.seen (R.told result.disk) }
+        ensures records { (piece : List ℕ) (start : ℕ) → Holds self.seen piece start → start + length piece ≤ result.durable
+            → IsKeptAt self.seen.first piece start (R.told result.disk) }
+    {
+        let Redo {
+            disk,
+            durable,
+            end,
+            pending,
+            ..
+        } = self;
+        drop(pending);
+        RedoEnd { disk, end, durable }
+    }
+}

@@ -1,0 +1,177 @@
+-- What a command leaves of desk and worker, apart from laws.
+use Rattle.std.proofs.Common.{◌≡◌, ℕ, suc, Bool, true, false, cond, List, [], ◌∷◌, ◌++◌, ◌+◌, ◌≤◌, Option, Some, None, length, refl, ap, ◌∙◌, sym, subst, nat_eq, IsSome, arith, slice_get, drop, take, reverse}
+use Rattle.std.proofs.lemmas.List.{reverse-append}
+use Rattle.page_ids.specs.Same.{same_page}
+use Rattle.page_ids.specs.declared.ids.PageId.{PageId}
+use Rattle.trail.specs.declared.event.Entry.{Entry}
+use Rattle.trail.specs.declared.event.Held.{Held}
+use Rattle.trail.specs.declared.event.Kind.{Kind}
+use Rattle.trail.specs.declared.event.Kind.TheVariants as kind
+use Rattle.trail.specs.declared.event.Call.TheVariants as call
+use Rattle.trail.specs.declared.event.Cause.{Cause}
+use Rattle.trail.specs.declared.event.Note.{Note}
+use Rattle.trail.specs.History.{home}
+use Rattle.trail.specs.Calls.{given_back, held_after_note, newest_of}
+use Rattle.desk.specs.declared.calls.Granted.{Granted}
+use Rattle.desk.specs.State.{State}
+use Rattle.desk.specs.Steps.{IsHit, IsMiss, IsAppended, next_entry}
+use Rattle.script_run.specs.Work.{Senses, Working, AreHoused, Along, answered, noted}
+use Rattle.script_run.proofs.Fixes.{one_page, split_at, reverse_around}
+use Rattle.script_run.proofs.Values.{Leaves, fix_leaves, refused_leaves}
+use Rattle.script_run.proofs.Growing.{me, same}
+
+abbrev entry_of : ℕ → ℕ → ℕ → Kind → Entry
+entry_of place caller number k = record { place = place; caller = caller; number = number; kind = k }
+
+housed_quiet : (h : List Entry) (e : Entry) (held : List Held) → Leaves e.kind → AreHoused h held → AreHoused (e ∷ h) held
+housed_quiet h e [] leaves was = tt
+housed_quiet h e (x ∷ held) leaves was = (leaves.homes x.page (home h x.page) ∙ was.0, housed_quiet h e held leaves was.1)
+
+other_home : (b : Bool) (h : List Entry) (p q : PageId) (f g : ℕ) → same_page p q ≡ b → home h p ≡ None → home h q ≡ Some g → cond b (Some f) (home h q) ≡ Some g
+other_home true h p q f g test absent here = let bad : None ≡ Some g = sym absent ∙ ap (home h) (one_page p q test) ∙ here in absurd (cc)
+other_home false h p q f g test absent here = here
+
+housed_load : (h : List Entry) (place c n : ℕ) (p : PageId) (f : ℕ) (held : List Held) → home h p ≡ None → AreHoused h held → AreHoused (entry_of place c n (kind.Load p f) ∷ h) held
+housed_load h place c n p f [] absent was = tt
+housed_load h place c n p f (x ∷ held) absent was = (other_home (same_page p x.page) h p x.page f x.frame refl absent was.0, housed_load h place c n p f held absent was.1)
+
+housed_test : (b : Bool) (h : List Entry) (x : Held) (held more : List Held) → home h x.page ≡ Some x.frame → AreHoused h held → AreHoused h more → AreHoused h (cond b held (x ∷ more))
+housed_test true h x held more here a m = a
+housed_test false h x held more here a m = (here, m)
+
+housed_back : (h : List Entry) (n : ℕ) (held : List Held) → AreHoused h held → AreHoused h (given_back n held)
+housed_back h n [] was = tt
+housed_back h n (x ∷ held) was = housed_test (nat_eq x.number n) h x held (given_back n held) was.0 was.1 (housed_back h n held was.1)
+
+fewer_test : (b : Bool) (x : Held) (held more : List Held) → length more ≤ length held → length (cond b held (x ∷ more)) ≤ length (x ∷ held)
+fewer_test true x held more le = omega arith
+fewer_test false x held more le = omega (arith, le)
+
+fewer_back : (n : ℕ) (held : List Held) → length (given_back n held) ≤ length held
+fewer_back n [] = omega arith
+fewer_back n (x ∷ held) = fewer_test (nat_eq x.number n) x held (given_back n held) (fewer_back n held)
+
+same_here : {D : Type 0} (sense : Senses D) (d : D) → same sense d d
+same_here sense d = record { sizes = refl; bytes = λ p. refl; spaces_are = λ s. refl; later = omega arith }
+
+pub along_hit : {D : Type 0} (sense : Senses D) (old new : State D) (w : Working) (p : PageId) (now : ℕ) (g : Granted)
+    → IsHit old new (me w) p now g → same sense old.disk new.disk → Along sense 1 old new w (answered w (kind.Fix p g.frame g.clock now))
+along_hit sense old new w p now g hit disk =
+    let k = kind.Fix p g.frame g.clock now in
+    let H : List Entry → Type 0 = λ h. AreHoused h (answered w k).fixed in
+    record {
+      config = hit.entry.config;
+      grown = omega (arith, ap (length {A = Entry}) hit.entry.history);
+      pass = refl;
+      next = refl;
+      fewer = omega arith;
+      housed = λ was. subst H (sym hit.entry.history) (hit.resident, housed_quiet old.history (next_entry old (me w) k) w.fixed (fix_leaves p g.frame g.clock now) was);
+      disk = disk;
+    }
+
+pub along_miss : {D : Type 0} (sense : Senses D) (old new : State D) (w : Working) (p : PageId) (now : ℕ) (g : Granted)
+    → IsMiss sense.told old new (me w) p now g → same sense old.disk new.disk → Along sense 1 old new w (answered w (kind.Fix p g.frame g.clock now))
+along_miss sense old new w p now g miss disk =
+    let k = kind.Fix p g.frame g.clock now in
+    let load : Entry = next_entry old (me w) (kind.Load p g.frame) in
+    let H : List Entry → Type 0 = λ h. AreHoused h (answered w k).fixed in
+    let M : List Entry → Type 0 = λ h. AreHoused h w.fixed in
+    record {
+      config = miss.hit.entry.config ∙ miss.loaded.config;
+      grown = omega (arith, ap (length {A = Entry}) miss.hit.entry.history, ap (length {A = Entry}) miss.loaded.history);
+      pass = refl;
+      next = refl;
+      fewer = omega arith;
+      housed = λ was.
+          let mid : AreHoused miss.mid.history w.fixed = subst M (sym miss.loaded.history) (housed_load old.history load.place load.caller load.number p g.frame w.fixed miss.loaded.absent was) in
+          subst H (sym miss.hit.entry.history) (miss.hit.resident, housed_quiet miss.mid.history (next_entry miss.mid (me w) k) w.fixed (fix_leaves p g.frame g.clock now) mid);
+      disk = disk;
+    }
+
+pub along_refused : {D : Type 0} (sense : Senses D) (old new : State D) (w : Working) (p : PageId) (now : ℕ) (why : Cause)
+    → IsAppended old new (me w) (kind.Refused (call.Fix p now) why) → same sense old.disk new.disk → Along sense 1 old new w (answered w (kind.Refused (call.Fix p now) why))
+along_refused sense old new w p now why entry disk =
+    let k = kind.Refused (call.Fix p now) why in
+    let H : List Entry → Type 0 = λ h. AreHoused h w.fixed in
+    record {
+      config = entry.config;
+      grown = omega (arith, ap (length {A = Entry}) entry.history);
+      pass = refl;
+      next = refl;
+      fewer = omega arith;
+      housed = λ was. subst H (sym entry.history) (housed_quiet old.history (next_entry old (me w) k) w.fixed (refused_leaves (call.Fix p now) why) was);
+      disk = disk;
+    }
+
+-- a receipt that gives no fix back, or the fix that its call got
+pub along_kept : {D : Type 0} (sense : Senses D) (desk : State D) (w : Working) (n : Note) → held_after_note w.next n w.fixed ≡ w.fixed → Along sense 1 desk desk w (noted desk w n)
+along_kept sense desk w n kept =
+    let H : List Held → Type 0 = λ held. AreHoused desk.history held in
+    record {
+      config = refl;
+      grown = omega arith;
+      pass = refl;
+      next = refl;
+      fewer = omega (arith, ap (length {A = Held}) kept);
+      housed = λ was. subst H (sym kept) was;
+      disk = same_here sense desk.disk;
+    }
+
+pub along_none : {D : Type 0} (sense : Senses D) (desk : State D) (w : Working) → Along sense 0 desk desk w w
+along_none sense desk w = record { config = refl; grown = omega arith; pass = refl; next = omega arith; fewer = omega arith; housed = λ was. was; disk = same_here sense desk.disk }
+
+pub along_more : {D : Type 0} (sense : Senses D) (n : ℕ) (old mid new : State D) (w u v : Working) → Along sense n old mid w u → Along sense 1 mid new u v → Along sense (n + 1) old new w v
+along_more sense n old mid new w u v a b = record {
+  config = b.config ∙ a.config;
+  grown = omega (arith, a.grown, b.grown);
+  pass = b.pass ∙ a.pass;
+  next = omega (arith, a.next, b.next);
+  fewer = omega (arith, a.fewer, b.fewer);
+  housed = λ was. b.housed (a.housed was);
+  disk = record {
+    sizes = b.disk.sizes ∙ a.disk.sizes;
+    bytes = λ p. b.disk.bytes p ∙ a.disk.bytes p;
+    spaces_are = λ s. b.disk.spaces_are s ∙ a.disk.spaces_are s;
+    later = omega (arith, a.disk.later, b.disk.later);
+  };
+}
+
+newest_test : (b : Bool) (h : List Entry) (x : Held) (held : List Held) (p : PageId) → same_page x.page p ≡ b → IsSome (cond b (Some x) (newest_of held p)) → home h x.page ≡ Some x.frame
+    → (IsSome (newest_of held p) → (f : ℕ) × (home h p ≡ Some f)) → (f : ℕ) × (home h p ≡ Some f)
+newest_test true h x held p test some here more = (x.frame, ap (home h) (sym (one_page x.page p test)) ∙ here)
+newest_test false h x held p test some here more = more some
+
+-- a page that is held has a home
+held_home : (h : List Entry) (held : List Held) (p : PageId) → AreHoused h held → IsSome (newest_of held p) → (f : ℕ) × (home h p ≡ Some f)
+held_home h [] p housed some = absurd (cc)
+held_home h (x ∷ held) p housed some = newest_test (same_page x.page p) h x held p refl some housed.0 (held_home h held p housed.1)
+
+pub held_resident : (h : List Entry) (held : List Held) (p : PageId) → AreHoused h held → IsSome (newest_of held p) → IsSome (home h p)
+held_resident h held p housed some = let found = held_home h held p housed some in let S : Option ℕ → Type 0 = λ f. IsSome f in subst S (sym found.1) refl
+
+housed_mid : (h : List Entry) (xs : List Held) (x : Held) (ys : List Held) → AreHoused h (xs ++ x ∷ ys) → AreHoused h (xs ++ ys)
+housed_mid h [] x ys was = was.1
+housed_mid h (y ∷ xs) x ys was = (was.0, housed_mid h xs x ys was.1)
+
+fewer_mid : (xs : List Held) (x : Held) (ys : List Held) → length (xs ++ ys) ≤ length (xs ++ x ∷ ys)
+fewer_mid [] x ys = omega arith
+fewer_mid (y ∷ xs) x ys = omega (arith, fewer_mid xs x ys)
+
+-- one fix less
+pub along_removed : {D : Type 0} (sense : Senses D) (desk : State D) (w v : Working) (items left : List Held) (i : ℕ) (h : Held)
+    → w.fixed ≡ reverse items → v.fixed ≡ reverse left → left ≡ take i items ++ drop (suc i) items → slice_get items i ≡ Some h → v.pass ≡ w.pass → v.next ≡ w.next + 1
+    → Along sense 1 desk desk w v
+along_removed sense desk w v items left i h old new is here pass next =
+    let parts : w.fixed ≡ reverse (drop (suc i) items) ++ h ∷ reverse (take i items) = old ∙ ap reverse (split_at items i h here) ∙ reverse_around (take i items) h (drop (suc i) items) in
+    let now : v.fixed ≡ reverse (drop (suc i) items) ++ reverse (take i items) = new ∙ ap reverse is ∙ reverse-append (take i items) (drop (suc i) items) in
+    let less = fewer_mid (reverse (drop (suc i) items)) h (reverse (take i items)) in
+    let H : List Held → Type 0 = λ held. AreHoused desk.history held in
+    record {
+      config = refl;
+      grown = omega arith;
+      pass = pass;
+      next = next;
+      fewer = omega (arith, less, ap (length {A = Held}) parts, ap (length {A = Held}) now);
+      housed = λ was. subst H (sym now) (housed_mid desk.history (reverse (drop (suc i) items)) h (reverse (take i items)) (subst H parts was));
+      disk = same_here sense desk.disk;
+    }

@@ -1,0 +1,9 @@
+pub mod Fixes
+pub mod Values
+pub mod Growing
+pub mod Doing
+pub mod Along
+pub mod Progress
+pub mod Finished
+pub mod Answering
+pub mod Reading

@@ -1,0 +1,183 @@
+-- Commands are done one after the other, and then what is held is given back.
+use Rattle.std.proofs.Common.{◌≡◌, ℕ, Bool, true, false, cond, List, [], ◌∷◌, ◌++◌, inl, inr, Option, Some, None, MatchOption, length, refl, ap, ◌∙◌, sym, subst, nat_eq, filter, reverse, append_assoc, eq-eqb}
+use Rattle.std.proofs.lemmas.List.{reverse-append}
+use Rattle.trail.specs.declared.event.Call.{Call}
+use Rattle.trail.specs.declared.event.Call.TheVariants as call
+use Rattle.trail.specs.declared.event.Cause.TheVariants as cause
+use Rattle.trail.specs.declared.event.Note.TheVariants as note
+use Rattle.trail.specs.declared.event.Held.{Held}
+use Rattle.trail.specs.declared.event.Entry.{Entry}
+use Rattle.trail.specs.declared.event.Kind.{Kind}
+use Rattle.trail.specs.declared.event.Kind.TheVariants as kind
+use Rattle.trail.specs.declared.event.Event.{Event}
+use Rattle.trail.specs.declared.event.Event.TheVariants as event
+use Rattle.trail.specs.Opening.{Opening}
+use Rattle.trail.specs.Calls.{held_by, held_after_kind, held_after_note, newest_of, is_answer, kind_answers, given_back}
+use Rattle.desk.specs.State.{State}
+use Rattle.script_text.specs.declared.script.Command.{Command}
+use Rattle.script_text.specs.declared.script.Command.TheVariants as command
+use Rattle.script_run.specs.Todo.{Answers, Todo, GivesBack, IsReceiptOf, IsRefusal}
+use Rattle.script_run.specs.Work.{Senses, Working, SoFar, Does, Progress, Ending, Worked, noted}
+use Rattle.script_run.proofs.Fixes.{same_self}
+use Rattle.script_run.proofs.Doing.{does_unfix}
+
+-- what a command has for its answer depends on the fixes that are held alone
+answers_along : (k : ℕ) (c : Command) (past earlier : List Event) (e : Event) → held_by past k ≡ held_by earlier k → Answers k c past e → Answers k c earlier e
+answers_along k (command.Fix p now) past earlier e same a = a
+answers_along k (command.Read p at len) past earlier e same a =
+    let M : List Held → Type 0 = λ fixes. MatchOption (newest_of fixes p) (IsReceiptOf (note.Refused (call.Read p at len) cause.Unheld) e)
+    (λ held. (bytes : List ℕ) × (clock : ℕ) × (length bytes ≡ len) × IsReceiptOf (note.Copied p at bytes clock) e) in
+    subst M same a
+answers_along k (command.Unfix p) past earlier e same a =
+    let M : List Held → Type 0 = λ fixes. MatchOption (newest_of fixes p) (IsReceiptOf (note.Refused (call.Unfix p) cause.Unheld) e) (λ held. IsReceiptOf (note.Unfixed p held.frame held.number) e) in
+    subst M same a
+
+quiet_kind : (n : ℕ) (k : Kind) (held : List Held) → kind_answers k ≡ false → held_after_kind n k held ≡ held
+quiet_kind n (kind.Load p f) held silent = refl
+quiet_kind n (kind.Fix p f clock now) held silent = absurd (cc)
+quiet_kind n (kind.Create p f start end now) held silent = absurd (cc)
+quiet_kind n (kind.Put p at bytes start end) held silent = refl
+quiet_kind n (kind.Evict p f passed) held silent = refl
+quiet_kind n (kind.Write p lsn upto) held silent = refl
+quiet_kind n (kind.Move p from to) held silent = refl
+quiet_kind n (kind.Withdraw from) held silent = refl
+quiet_kind n (kind.Undo from) held silent = refl
+quiet_kind n (kind.Shrink chunks) held silent = refl
+quiet_kind n (kind.Grow chunks) held silent = refl
+quiet_kind n (kind.Resize bytes chunks) held silent = refl
+quiet_kind n (kind.Clean written skipped) held silent = refl
+quiet_kind n (kind.Check lsn) held silent = refl
+quiet_kind n (kind.WatchSet p) held silent = refl
+quiet_kind n (kind.WatchAt p f) held silent = refl
+quiet_kind n (kind.Occurred p arrived) held silent = refl
+quiet_kind n (kind.Unwatch p) held silent = refl
+quiet_kind n (kind.Dump pct ids) held silent = refl
+quiet_kind n (kind.Refused asked why) held silent = refl
+
+either : {A : Type 0} (b : Bool) (x y : A) → x ≡ y → cond b x y ≡ y
+either true x y e = e
+either false x y e = refl
+
+no_answer : (b : Bool) (e : Event) (es : List Event) → cond b (e ∷ es) es ≡ [] → (b ≡ false) × (es ≡ [])
+no_answer true e es h = absurd (cc)
+no_answer false e es h = (refl, h)
+
+-- events that are no answers hold nothing
+held_quiet : (before past : List Event) (k : ℕ) → filter is_answer before ≡ [] → held_by (before ++ past) k ≡ held_by past k
+held_quiet [] past k quiet = refl
+held_quiet (event.Entry e ∷ before) past k quiet =
+    let none = no_answer (kind_answers e.kind) (event.Entry e) (filter is_answer before) quiet in
+    either (nat_eq e.caller k) (held_after_kind e.number e.kind (held_by (before ++ past) k)) (held_by (before ++ past) k) (quiet_kind e.number e.kind (held_by (before ++ past) k) none.0) ∙ held_quiet before past k none.1
+held_quiet (event.Receipt r ∷ before) past k quiet = absurd (cc)
+
+-- an answer does the same to the fixes, whatever stood between
+held_along : (e : Event) (past earlier : List Event) (k : ℕ) → held_by past k ≡ held_by earlier k → held_by (e ∷ past) k ≡ held_by (e ∷ earlier) k
+held_along (event.Entry e) past earlier k same = ap (λ held. cond (nat_eq e.caller k) (held_after_kind e.number e.kind held) held) same
+held_along (event.Receipt r) past earlier k same = ap (λ held. cond (nat_eq r.caller k) (held_after_note r.number r.note held) held) same
+
+refusal_answers : (e : Entry) (c : Call) → IsRefusal c (event.Entry e) → kind_answers e.kind ≡ true
+refusal_answers e c (why, is) = ap kind_answers is
+
+no_receipt : (found : Option Held) (e : Entry) (A : Type 0) (B : Held → Type 0) → (A → ⊥) → ((h : Held) → B h → ⊥) → MatchOption found A B → kind_answers e.kind ≡ true
+no_receipt None e A B a b m = absurd (a m)
+no_receipt (Some h) e A B a b m = absurd (b h m)
+
+-- an answer of a command answers
+answers_answer : (k : ℕ) (c : Command) (past : List Event) (e : Event) → Answers k c past e → is_answer e ≡ true
+answers_answer k c past (event.Receipt r) a = refl
+answers_answer k (command.Fix p now) past (event.Entry e) (inl granted) = ap kind_answers granted.2
+answers_answer k (command.Fix p now) past (event.Entry e) (inr refused) = refusal_answers e (call.Fix p now) refused
+answers_answer k (command.Read p at len) past (event.Entry e) a = no_receipt (newest_of (held_by past k) p) e _ _ (λ x. x) (λ h x. x.3) a
+answers_answer k (command.Unfix p) past (event.Entry e) a = no_receipt (newest_of (held_by past k) p) e _ _ (λ x. x) (λ h x. x) a
+
+quiet_test : (b : Bool) (e : Event) (es xs : List Event) → b ≡ false → xs ≡ es → cond b (e ∷ xs) xs ≡ es
+quiet_test true e es xs bad same = absurd (cc)
+quiet_test false e es xs f same = same
+
+filter_quiet : (before more : List Event) → filter is_answer before ≡ [] → filter is_answer (before ++ more) ≡ filter is_answer more
+filter_quiet [] more quiet = refl
+filter_quiet (e ∷ before) more quiet =
+    let none = no_answer (is_answer e) e (filter is_answer before) quiet in
+    quiet_test (is_answer e) e (filter is_answer more) (filter is_answer (before ++ more)) none.0 (filter_quiet before more none.1)
+
+-- the answers, with one more
+filter_answer : (e : Event) (before more done : List Event) → is_answer e ≡ true → filter is_answer before ≡ [] → filter is_answer more ≡ done → filter is_answer (e ∷ before ++ more) ≡ e ∷ done
+filter_answer e before more done answers quiet are =
+    ap (λ (b : Bool). cond b (e ∷ filter is_answer (before ++ more)) (filter is_answer (before ++ more))) answers ∙ ap (λ xs. e ∷ xs) (filter_quiet before more quiet ∙ are)
+
+around : (e : Event) (done tail : List Event) → reverse (e ∷ done) ++ tail ≡ reverse done ++ e ∷ tail
+around e done tail = ap (λ xs. xs ++ tail) (reverse-append (e ∷ []) done) ∙ append_assoc (reverse done) (e ∷ []) tail
+
+pub append_nil : {A : Type 0} → (xs : List A) → xs ++ [] ≡ xs
+append_nil [] = refl
+append_nil (x ∷ xs) = ap (λ t. x ∷ t) (append_nil xs)
+
+pub progress_start : {D : Type 0} (sense : Senses D) (o : Opening) (low : ℕ) (desk : State D) (w : Working) (past : List Event) (commands : List Command) → SoFar sense o low desk w past [] → Progress sense o low desk w past commands commands
+progress_start sense o low desk w past commands so = record { more = []; done = []; so_far = so; done_are = refl; held = refl; left = λ h tail t. t }
+
+pub progress_more : {D : Type 0} (sense : Senses D) (o : Opening) (low : ℕ) (desk new : State D) (w v : Working) (past : List Event) (commands : List Command) (c : Command) (rest : List Command)
+    → v.pass ≡ w.pass → (so : Progress sense o low desk w past commands (c ∷ rest)) → Does sense o low new v (so.more ++ past) c → Progress sense o low new v past commands rest
+progress_more sense o low desk new w v past commands c rest pass so does =
+    let H : ℕ → Type 0 = λ k. held_by (so.more ++ past) k ≡ held_by (so.done ++ past) k in
+    let held : held_by (so.more ++ past) v.pass ≡ held_by (so.done ++ past) v.pass = subst H (sym pass) so.held in
+    let L : ℕ → Type 0 = λ k. (h : List Entry) (tail : List Event) → Todo h k (c ∷ rest) (so.done ++ past) tail → Todo h k commands past (reverse so.done ++ tail) in
+    let left = subst L (sym pass) so.left in
+    let all : does.answer ∷ (does.before ++ (so.more ++ past)) ≡ does.answer ∷ ((does.before ++ so.more) ++ past) = ap (λ t. does.answer ∷ t) (sym (append_assoc does.before so.more past)) in
+    let S : List Event → Type 0 = λ p. SoFar sense o low new v p [] in
+    record {
+      more = does.answer ∷ does.before ++ so.more;
+      done = does.answer ∷ so.done;
+      so_far = subst S all does.so_far;
+      done_are = filter_answer does.answer does.before so.more so.done (answers_answer v.pass c (so.more ++ past) does.answer does.answers) does.quiet so.done_are;
+      held = ap (λ p. held_by p v.pass) (sym all) ∙ held_along does.answer (does.before ++ (so.more ++ past)) (so.done ++ past) v.pass (held_quiet does.before (so.more ++ past) v.pass does.quiet ∙ held);
+      left = λ h tail t.
+          let T : List Event → Type 0 = λ l. Todo h v.pass commands past l in
+          let one : Todo h v.pass (c ∷ rest) (so.done ++ past) (does.answer ∷ tail) =
+          (does.answer ∷ [], tail, refl, (does.answer, refl, answers_along v.pass c (so.more ++ past) (so.done ++ past) does.answer held does.answers), t) in
+          subst T (sym (around does.answer so.done tail)) (left h (does.answer ∷ tail) one);
+    }
+
+pub ending_start : {D : Type 0} (sense : Senses D) (o : Opening) (low : ℕ) (desk : State D) (w : Working) (past : List Event) (commands : List Command) → Progress sense o low desk w past commands [] → Ending sense o low desk w past commands
+ending_start sense o low desk w past commands so = record {
+  more = so.more;
+  done = so.done;
+  so_far = so.so_far;
+  done_are = so.done_are;
+  left = λ h tail back. let G : List Held → Type 0 = λ held. GivesBack held tail in so.left h tail (subst G (sym so.so_far.held ∙ so.held) back);
+}
+
+pub ending_more : {D : Type 0} (sense : Senses D) (o : Opening) (low : ℕ) (desk : State D) (w : Working) (past : List Event) (commands : List Command) (h : Held) (rest : List Held)
+    → w.fixed ≡ h ∷ rest → Ending sense o low desk w past commands → Ending sense o low desk (noted desk w (note.Unfixed h.page h.frame h.number)) past commands
+ending_more sense o low desk w past commands h rest first so =
+    let v : Working = noted desk w (note.Unfixed h.page h.frame h.number) in
+    let newest : newest_of w.fixed h.page ≡ Some h = ap (λ held. newest_of held h.page) first ∙ ap (λ (b : Bool). cond b (Some h) (newest_of rest h.page)) (same_self h.page) in
+    let does : Does sense o low desk v (so.more ++ past) (command.Unfix h.page) = does_unfix sense o low desk w (so.more ++ past) h.page h so.so_far newest in
+    let left_over : v.fixed ≡ rest = ap (given_back h.number) first ∙ ap (λ (b : Bool). cond b rest (h ∷ given_back h.number rest)) (eq-eqb h.number h.number refl) in
+    let here : newest_of (held_by (so.more ++ past) w.pass) h.page ≡ Some h = ap (λ fixes. newest_of fixes h.page) so.so_far.held ∙ newest in
+    let M : Option Held → Type 0 = λ found. MatchOption found (IsReceiptOf (note.Refused (call.Unfix h.page) cause.Unheld) does.answer) (λ held. IsReceiptOf (note.Unfixed h.page held.frame held.number) does.answer) in
+    let answer : IsReceiptOf (note.Unfixed h.page h.frame h.number) does.answer = subst M here does.answers in
+    let all : does.answer ∷ (does.before ++ (so.more ++ past)) ≡ does.answer ∷ ((does.before ++ so.more) ++ past) = ap (λ t. does.answer ∷ t) (sym (append_assoc does.before so.more past)) in
+    let S : List Event → Type 0 = λ p. SoFar sense o low desk v p [] in
+    record {
+      more = does.answer ∷ does.before ++ so.more;
+      done = does.answer ∷ so.done;
+      so_far = subst S all does.so_far;
+      done_are = filter_answer does.answer does.before so.more so.done (answers_answer v.pass (command.Unfix h.page) (so.more ++ past) does.answer does.answers) does.quiet so.done_are;
+      left = λ hist tail back.
+          let T : List Event → Type 0 = λ t. Todo hist v.pass commands past t in
+          let G : List Held → Type 0 = λ held. GivesBack held tail in
+          let F : List Held → Type 0 = λ held. GivesBack held (does.answer ∷ tail) in
+          subst T (sym (around does.answer so.done tail)) (so.left hist (does.answer ∷ tail) (subst F (sym first) (answer, subst G left_over back)));
+    }
+
+pub worked : {D : Type 0} (sense : Senses D) (o : Opening) (low : ℕ) (desk : State D) (w : Working) (past : List Event) (commands : List Command) → w.fixed ≡ [] → Ending sense o low desk w past commands → Worked sense o low desk w past commands
+worked sense o low desk w past commands none so =
+    let G : List Held → Type 0 = λ held. GivesBack held [] in
+    record {
+      more = so.more;
+      so_far = so.so_far;
+      none = none;
+      todo = λ h.
+          let T : List Event → Type 0 = λ t. Todo h w.pass commands past t in
+          subst T (append_nil (reverse so.done) ∙ ap reverse (sym so.done_are)) (so.left h [] (subst G (sym none) tt));
+    }

@@ -1,0 +1,6 @@
+pub mod Todo
+pub mod Openings
+pub mod Work
+pub mod Workers
+pub mod Ends
+pub mod Runs

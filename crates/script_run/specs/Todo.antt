@@ -1,0 +1,60 @@
+-- What a thread's answers are, by its commands.
+use Rattle.std.specs.Prelude.{ℕ, List, [], ◌∷◌, ◌++◌, ◌≡◌, ◌==◌, ◌&&◌, ◌⊎◌, MatchOption, length, filter, reverse}
+use Rattle.trail.specs.declared.event.Call.{Call}
+use Rattle.trail.specs.declared.event.Call.TheVariants as call
+use Rattle.trail.specs.declared.event.Cause.{Cause}
+use Rattle.trail.specs.declared.event.Cause.TheVariants as cause
+use Rattle.trail.specs.declared.event.Kind.{Kind}
+use Rattle.trail.specs.declared.event.Kind.TheVariants as kind
+use Rattle.trail.specs.declared.event.Note.{Note}
+use Rattle.trail.specs.declared.event.Note.TheVariants as note
+use Rattle.trail.specs.declared.event.Held.{Held}
+use Rattle.trail.specs.declared.event.Entry.{Entry}
+use Rattle.trail.specs.declared.event.Event.{Event}
+use Rattle.trail.specs.declared.event.Event.TheVariants as event
+use Rattle.trail.specs.Calls.{caller_of, is_answer, held_by, newest_of}
+use Rattle.script_text.specs.declared.script.Command.{Command}
+use Rattle.script_text.specs.declared.script.Command.TheVariants as command
+
+-- the answers of a caller, in order
+abbrev pub answers_of : ℕ → List Event → List Event
+answers_of caller events = filter (λ e. (caller_of e == caller) && is_answer e) events
+
+abbrev pub IsEntryOf : Kind → Event → Type 0
+IsEntryOf k (event.Entry e) = e.kind ≡ k
+IsEntryOf k (event.Receipt r) = ⊥
+
+abbrev pub IsReceiptOf : Note → Event → Type 0
+IsReceiptOf n (event.Entry e) = ⊥
+IsReceiptOf n (event.Receipt r) = r.note ≡ n
+
+-- the event is the refusal of the call, as an entry or as a receipt
+abbrev pub IsRefusal : Call → Event → Type 0
+IsRefusal c (event.Entry e) = (why : Cause) × (e.kind ≡ kind.Refused c why)
+IsRefusal c (event.Receipt r) = (why : Cause) × (r.note ≡ note.Refused c why)
+
+-- The event answers a command of thread K, whose earlier answers, the newest first, say which fix the command works on.
+abbrev pub Answers : ℕ → Command → List Event → Event → Type 0
+Answers k (command.Fix p now) earlier e = ((frame : ℕ) × (clock : ℕ) × IsEntryOf (kind.Fix p frame clock now) e) ⊎ IsRefusal (call.Fix p now) e
+Answers k (command.Read p at len) earlier e = MatchOption (newest_of (held_by earlier k) p)
+    (IsReceiptOf (note.Refused (call.Read p at len) cause.Unheld) e)
+    (λ held. (bytes : List ℕ) × (clock : ℕ) × (length bytes ≡ len) × IsReceiptOf (note.Copied p at bytes clock) e)
+Answers k (command.Unfix p) earlier e = MatchOption (newest_of (held_by earlier k) p)
+    (IsReceiptOf (note.Refused (call.Unfix p) cause.Unheld) e)
+    (λ held. IsReceiptOf (note.Unfixed p held.frame held.number) e)
+
+-- The answers of one command, where its trail has this history: one of each command so far; a command of several calls has several.
+abbrev pub Makes : List Entry → ℕ → Command → List Event → List Event → Type 0
+Makes h k c earlier mine = (e : Event) × (mine ≡ e ∷ []) × Answers k c earlier e
+
+-- at its end a thread gives back what it holds, the newest first
+abbrev pub GivesBack : List Held → List Event → Type 0
+GivesBack [] [] = Unit {0}
+GivesBack [] (e ∷ es) = ⊥
+GivesBack (held ∷ more) [] = ⊥
+GivesBack (held ∷ more) (e ∷ es) = IsReceiptOf (note.Unfixed held.page held.frame held.number) e × GivesBack more es
+
+-- one command after the other, each with its answers
+abbrev pub Todo : List Entry → ℕ → List Command → List Event → List Event → Type 0
+Todo h k [] earlier answers = GivesBack (held_by earlier k) answers
+Todo h k (c ∷ cs) earlier answers = (mine : List Event) × (rest : List Event) × (answers ≡ mine ++ rest) × Makes h k c earlier mine × Todo h k cs (reverse mine ++ earlier) rest

@@ -1,0 +1,329 @@
+//! A thread of a script: its calls, one after the other.
+ghost use Rattle.std.specs.Prelude.{◌≡◌, ◌<◌, ◌≤◌, ◌+◌, ◌*◌, ◌^◌, ℕ, List, [], Some, None, OnOk, IfOk, slice_range, IsSome, IsSomeAnd, IfSome, IfNone, length, slice_get, reverse};
+ghost use Rattle.std.specs.List.{AllByRecursion};
+ghost use Rattle.page_disk.specs.Disks.{IsSameDisk};
+ghost use Rattle.trail.specs.History.{home, change};
+ghost use Rattle.trail.specs.Calls.{newest_of};
+ghost use Rattle.trail.specs.Opening.{Opening};
+ghost use Rattle.trail.specs.declared.event.Event.{Event};
+ghost use Rattle.desk.specs.Steps.{home_image};
+ghost use Rattle.script_text.specs.Within.{IsInRange};
+ghost use Rattle.script_run.specs.Work.{senses, SoFar, Does, noted_at, Along, AreHoused, Progress, Ending, Worked};
+ghost use Rattle.script_run.specs.Workers.{working};
+
+use desk::{Caller, Desk, FixErr};
+use page_disk::PageDisk;
+use page_ids::{Bytes, OutOfMemory, PageId};
+use script_text::script::Command;
+use std::alloc::Global;
+use trail::{Call, Cause, Held, Note, Receipt};
+
+/// What a thread has done so far.
+#[derive(Drop)]
+pub struct Worker {
+    pass: u32,
+    next: u32,
+    /// The open fixes, the newest last.
+    fixed: Vec<Held>,
+    /// The receipts, the newest last.
+    account: Vec<Receipt>,
+}
+
+/// Copies bytes of a resident page, and gives the clock of its frame beside them.
+fn copied<D: PageDisk>(
+    alloc: Global,
+    desk: &Desk<D>,
+    page: PageId,
+    at: u32,
+    len: u32,
+) -> Result<(Bytes, u64), OutOfMemory>
+    requires resident { IsSome (home desk.now.state.history page) }
+    requires range { IsInRange desk.now.state.config.page (Command.Read page at len) }
+    ensures long { IfOk result (λ r. length r.0 ≡ len) }
+    ensures bytes { IfOk result (λ r. IsSomeAnd (home_image desk.now.state page) (λ c. r.0 ≡ slice_range c.bytes at (at + len))) }
+    ensures clock { IfOk result (λ r. IsSomeAnd (home desk.now.state.history page) (λ f. r.1 ≡ change desk.now.state.history f)) }
+{
+    let mut bytes = vec![in alloc; 0; len as usize]?;
+    desk.image(page).copy_out(at, bytes.as_mut_slice());
+    Ok((Bytes::of(bytes), desk.clock(page)))
+}
+
+impl Worker {
+    /// A worker that did nothing yet.
+    pub fn new(alloc: Global, pass: u32) -> Worker
+        ensures { working result ≡ record { pass = pass; next = 1; fixed = []; account = [] } }
+    {
+        Worker {
+            pass,
+            next: 1,
+            fixed: Vec::new(alloc),
+            account: Vec::new(alloc),
+        }
+    }
+
+    /// The receipts that it left, the oldest first.
+    pub fn into_account(self) -> Vec<Receipt>
+        ensures { reverse result.items ≡ (working self).account }
+    {
+        let Worker {
+            pass: _,
+            next: _,
+            fixed: _,
+            account,
+        } = self;
+        account
+    }
+
+    /// Fixes a page. A refusal is an answer too.
+    fn fix<D: PageDisk>(
+        &mut self,
+        desk: &mut Desk<D>,
+        page: PageId,
+        now: u64,
+    ) -> Result<(), OutOfMemory>
+        requires places { desk.old.state.config.first + length desk.old.state.history + 2 < 2 ^ 64 }
+        requires number { self.old.next + 1 < 2 ^ 32 }
+        ensures along { OnOk result (Along (senses D.page_size D.told D.space_pages D.fault_count) 1 desk.old.state desk.new.state (working self.old) (working self.new)) }
+        ensures done { OnOk result ((o : Opening) (low : ℕ) (past : List Event)
+            → SoFar (senses D.page_size D.told D.space_pages D.fault_count) o low desk.old.state (working self.old) past []
+            → Does (senses D.page_size D.told D.space_pages D.fault_count) o low desk.new.state (working self.new) past (Command.Fix page now)) }
+    {
+        self.fixed.reserve(1)?;
+        let number = self.next;
+        let by = Caller {
+            pass: self.pass,
+            number,
+        };
+        match desk.fix_at(by, page, now) {
+            Ok(granted) => {
+                self.next = number + 1;
+                self.fixed.push_reserved(Held {
+                    page,
+                    frame: granted.frame,
+                    number,
+                });
+                Ok(())
+            }
+            Err(FixErr::OutOfMemory) => Err(OutOfMemory),
+            Err(FixErr::NoSuchPage { .. }) => {
+                self.next = number + 1;
+                Ok(())
+            }
+            Err(FixErr::DiskFault { .. }) => {
+                self.next = number + 1;
+                Ok(())
+            }
+            Err(FixErr::BadPage(_)) => {
+                self.next = number + 1;
+                Ok(())
+            }
+        }
+    }
+
+    /// Leaves the receipt of a call, at the desk's mark.
+    fn note(&mut self, place: u64, note: Note) -> Result<(), OutOfMemory>
+        requires number { self.old.next + 1 < 2 ^ 32 }
+        ensures noted { OnOk result (working self.new ≡ noted_at place (working self.old) note) }
+        ensures fixed { self.new.fixed ≡ self.old.fixed }
+    {
+        let number = self.next;
+        let receipt = Receipt {
+            place,
+            caller: self.pass,
+            number,
+            note,
+        };
+        if self.account.push(receipt).is_err() {
+            return Err(OutOfMemory);
+        }
+        self.next = number + 1;
+        Ok(())
+    }
+
+    /// Where the newest fix of the page stands.
+    fn newest(&self, page: PageId) -> Option<usize>
+        ensures some { IfSome result (λ at. (at < length self.now.fixed.items) × (slice_get self.now.fixed.items at ≡ newest_of (reverse self.now.fixed.items) page) × IsSome (newest_of (reverse self.now.fixed.items) page)) }
+        ensures none { IfNone result (newest_of (reverse self.now.fixed.items) page ≡ None) }
+    {
+        let mut at = self.fixed.len();
+        while at > 0 {
+            at -= 1;
+            let held = self.fixed[at];
+            if held.page == page {
+                return Some(at);
+            }
+        }
+        None
+    }
+
+    /// Reads bytes of a page that it holds.
+    fn read<D: PageDisk>(
+        &mut self,
+        alloc: Global,
+        desk: &Desk<D>,
+        page: PageId,
+        at: u32,
+        len: u32,
+    ) -> Result<(), OutOfMemory>
+        requires places { desk.now.state.config.first + length desk.now.state.history < 2 ^ 64 }
+        requires number { self.old.next + 1 < 2 ^ 32 }
+        requires housed { AreHoused desk.now.state.history (reverse self.old.fixed.items) }
+        requires range { IsInRange desk.now.state.config.page (Command.Read page at len) }
+        ensures along { OnOk result (Along (senses D.page_size D.told D.space_pages D.fault_count) 1 desk.now.state desk.now.state (working self.old) (working self.new)) }
+        ensures done { OnOk result ((o : Opening) (low : ℕ) (past : List Event)
+            → SoFar (senses D.page_size D.told D.space_pages D.fault_count) o low desk.now.state (working self.old) past []
+            → Does (senses D.page_size D.told D.space_pages D.fault_count) o low desk.now.state (working self.new) past (Command.Read page at len)) }
+    {
+        let place = desk.mark();
+        if self.newest(page).is_none() {
+            let call = Call::Read { page, at, len };
+            let cause = Cause::Unheld;
+            return self.note(place, Note::Refused { call, cause });
+        }
+        let Ok((bytes, clock)) = copied(alloc, desk, page, at, len) else {
+            return Err(OutOfMemory);
+        };
+        self.note(
+            place,
+            Note::Copied {
+                page,
+                at,
+                bytes,
+                clock,
+            },
+        )
+    }
+
+    /// Gives back the newest fix of a page.
+    fn unfix<D: PageDisk>(&mut self, desk: &Desk<D>, page: PageId) -> Result<(), OutOfMemory>
+        requires places { desk.now.state.config.first + length desk.now.state.history < 2 ^ 64 }
+        requires number { self.old.next + 1 < 2 ^ 32 }
+        ensures along { OnOk result (Along (senses D.page_size D.told D.space_pages D.fault_count) 1 desk.now.state desk.now.state (working self.old) (working self.new)) }
+        ensures done { OnOk result ((o : Opening) (low : ℕ) (past : List Event)
+            → SoFar (senses D.page_size D.told D.space_pages D.fault_count) o low desk.now.state (working self.old) past []
+            → Does (senses D.page_size D.told D.space_pages D.fault_count) o low desk.now.state (working self.new) past (Command.Unfix page)) }
+    {
+        let place = desk.mark();
+        let Some(at) = self.newest(page) else {
+            let call = Call::Unfix { page };
+            let cause = Cause::Unheld;
+            return self.note(place, Note::Refused { call, cause });
+        };
+        let held = self.fixed[at];
+        let frame = held.frame;
+        let fix = held.number;
+        if self
+            .note(place, Note::Unfixed { page, frame, fix })
+            .is_err()
+        {
+            return Err(OutOfMemory);
+        }
+        let _held = self.fixed.remove(at);
+        Ok(())
+    }
+
+    /// Does one command.
+    fn step<D: PageDisk>(
+        &mut self,
+        alloc: Global,
+        desk: &mut Desk<D>,
+        command: Command,
+    ) -> Result<(), OutOfMemory>
+        requires places { desk.old.state.config.first + length desk.old.state.history + 2 < 2 ^ 64 }
+        requires number { self.old.next + 1 < 2 ^ 32 }
+        requires housed { AreHoused desk.old.state.history (reverse self.old.fixed.items) }
+        requires range { IsInRange desk.old.state.config.page command }
+        ensures along { OnOk result (Along (senses D.page_size D.told D.space_pages D.fault_count) 1 desk.old.state desk.new.state (working self.old) (working self.new)) }
+        ensures done { OnOk result ((o : Opening) (low : ℕ) (past : List Event)
+            → SoFar (senses D.page_size D.told D.space_pages D.fault_count) o low desk.old.state (working self.old) past []
+            → Does (senses D.page_size D.told D.space_pages D.fault_count) o low desk.new.state (working self.new) past command) }
+    {
+        match command {
+            Command::Fix { page, now } => self.fix(desk, page, now),
+            Command::Read { page, at, len } => self.read(alloc, desk, page, at, len),
+            Command::Unfix { page } => self.unfix(desk, page),
+        }
+    }
+
+    /// Does the commands, one after the other.
+    fn do_all<D: PageDisk>(
+        &mut self,
+        alloc: Global,
+        desk: &mut Desk<D>,
+        commands: &[Command],
+    ) -> Result<(), OutOfMemory>
+        requires places { desk.old.state.config.first + length desk.old.state.history + 2 * length commands.now + 2 < 2 ^ 64 }
+        requires number { self.old.next + length commands.now < 2 ^ 32 }
+        requires housed { AreHoused desk.old.state.history (reverse self.old.fixed.items) }
+        requires ranges { AllByRecursion (IsInRange desk.old.state.config.page) commands.now }
+        ensures along { OnOk result (Along (senses D.page_size D.told D.space_pages D.fault_count) (length commands.now) desk.old.state desk.new.state (working self.old) (working self.new)) }
+        ensures done { OnOk result ((o : Opening) (low : ℕ) (past : List Event)
+            → SoFar (senses D.page_size D.told D.space_pages D.fault_count) o low desk.old.state (working self.old) past []
+            → Progress (senses D.page_size D.told D.space_pages D.fault_count) o low desk.new.state (working self.new) past commands.now []) }
+    {
+        for command in commands {
+            self.step(alloc, desk, *command)?;
+        }
+        Ok(())
+    }
+
+    /// Gives back the newest of its fixes.
+    fn give_back<D: PageDisk>(&mut self, desk: &Desk<D>) -> Result<(), OutOfMemory>
+        requires places { desk.now.state.config.first + length desk.now.state.history < 2 ^ 64 }
+        requires number { self.old.next + 1 < 2 ^ 32 }
+        requires some { 0 < length self.old.fixed.items }
+        ensures fewer { OnOk result (length self.new.fixed.items + 1 ≡ length self.old.fixed.items) }
+        ensures next { OnOk result (self.new.next ≡ self.old.next + 1) }
+        ensures pass { OnOk result (self.new.pass ≡ self.old.pass) }
+        ensures done { OnOk result ((o : Opening) (low : ℕ) (past : List Event) (commands : List Command)
+            → Ending (senses D.page_size D.told D.space_pages D.fault_count) o low desk.now.state (working self.old) past commands
+            → Ending (senses D.page_size D.told D.space_pages D.fault_count) o low desk.now.state (working self.new) past commands) }
+    {
+        let place = desk.mark();
+        let Some(held) = self.fixed.pop() else {
+            unreachable!()
+        };
+        let page = held.page;
+        let frame = held.frame;
+        let fix = held.number;
+        self.note(place, Note::Unfixed { page, frame, fix })
+    }
+
+    /// Gives back what it holds, the newest first.
+    fn give_back_all<D: PageDisk>(&mut self, desk: &Desk<D>) -> Result<(), OutOfMemory>
+        requires places { desk.now.state.config.first + length desk.now.state.history < 2 ^ 64 }
+        requires number { self.old.next + length self.old.fixed.items < 2 ^ 32 }
+        ensures pass { OnOk result (self.new.pass ≡ self.old.pass) }
+        ensures done { OnOk result ((o : Opening) (low : ℕ) (past : List Event) (commands : List Command)
+            → Ending (senses D.page_size D.told D.space_pages D.fault_count) o low desk.now.state (working self.old) past commands
+            → Worked (senses D.page_size D.told D.space_pages D.fault_count) o low desk.now.state (working self.new) past commands) }
+    {
+        while !self.fixed.is_empty() {
+            self.give_back(desk)?;
+        }
+        Ok(())
+    }
+
+    /// Does the commands of its thread, and gives back what it then holds.
+    pub fn work<D: PageDisk>(
+        &mut self,
+        alloc: Global,
+        desk: &mut Desk<D>,
+        commands: &[Command],
+    ) -> Result<(), OutOfMemory>
+        requires places { desk.old.state.config.first + length desk.old.state.history + 2 * length commands.now + 2 < 2 ^ 64 }
+        requires number { self.old.next + 2 * length commands.now < 2 ^ 32 }
+        requires new { length self.old.fixed.items ≡ 0 }
+        requires ranges { AllByRecursion (IsInRange desk.old.state.config.page) commands.now }
+        ensures config { OnOk result (desk.new.state.config ≡ desk.old.state.config) }
+        ensures grown { OnOk result (length desk.new.state.history ≤ length desk.old.state.history + 2 * length commands.now) }
+        ensures disk { OnOk result (IsSameDisk D.page_size D.told D.space_pages D.fault_count desk.old.state.disk desk.new.state.disk) }
+        ensures pass { OnOk result (self.new.pass ≡ self.old.pass) }
+        ensures done { OnOk result ((o : Opening) (low : ℕ) (past : List Event)
+            → SoFar (senses D.page_size D.told D.space_pages D.fault_count) o low desk.old.state (working self.old) past []
+            → Worked (senses D.page_size D.told D.space_pages D.fault_count) o low desk.new.state (working self.new) past commands.now) }
+    {
+        self.do_all(alloc, desk, commands)?;
+        self.give_back_all(desk)
+    }
+}

@@ -1,0 +1,201 @@
+-- A line is read exactly where it is the spelling of what it says.
+use Rattle.std.proofs.Common.{inl, inr, lit<, lit≤, subst, ℕ, List, [], ◌∷◌, ◌++◌, ◌≡◌, ◌^◌, ◌<◌, ◌∙◌, Bool, true, false, Option, None, Some, refl, sym, ap, arith, rules}
+use Rattle.std.specs.Prelude.{◌==◌, codes}
+use Rattle.std.specs.Fmt.{decimal}
+use Rattle.std.specs.Str.{bytes_eq}
+use Rattle.std.specs.List.{AllByRecursion, slice_split, join_with_byte}
+use Rattle.std.proofs.lemmas.Option.{option_and_then_some}
+use Rattle.std.proofs.lemmas.Slice.Eq.{bytes_eq-Decides}
+use Rattle.std.proofs.lemmas.List.Elements.{All-append, All-cons, All-from_recursion}
+use Rattle.std.proofs.lemmas.List.Splits.{join_with_byte-slice_split}
+use Rattle.page_ids.specs.Spelling.{page_text}
+use Rattle.page_ids.specs.declared.ids.PageId.{PageId}
+use Rattle.script_text.specs.Text.{command_words, item_words, setting_name, is_nothing, IsPageId, IsTyped, IsTypedItem, IsSpelled}
+use Rattle.script_text.specs.Reading.{number_of, cut_at, page_of, keyword_text, found, keywords, keyword_of, one, two, three, fix_of, read_of, unfix_of, thread_of, set_of, said_by, words_say, line_says}
+use Rattle.script_text.proofs.Numbers.{number_of-decimal, number_is}
+use Rattle.script_text.proofs.Cuts.{Lacks, decimal_lacks, words_joined, cut_here, cut_is}
+use Rattle.script_text.specs.declared.script.Command.{Command}
+use Rattle.script_text.specs.declared.script.Command.TheVariants.{Fix, Read, Unfix}
+use Rattle.script_text.specs.declared.lines.Setting.{Setting}
+use Rattle.script_text.specs.declared.lines.Setting.TheVariants.{Page, Frames, Size, Max}
+use Rattle.script_text.specs.declared.lines.Item.{Item}
+use Rattle.script_text.specs.declared.lines.Item.TheVariants.{Nothing, Set, Thread, Does}
+use Rattle.script_text.specs.declared.lines.Keyword.{Keyword}
+use Rattle.script_text.specs.declared.lines.Keyword.TheVariants as keyword
+
+-- page ids
+wide : (n : ℕ) → n < 2 ^ 32 → n < 2 ^ 64
+wide n small = omega arith
+
+number_lacks : (n : ℕ) → n < 2 ^ 64 → Lacks 32 (decimal n)
+number_lacks n h = decimal_lacks 32 n (inl (lit< tt)) h
+
+page_lacks : (p : PageId) → IsPageId p → Lacks 32 (page_text p)
+page_lacks p h = All-append (λ x. (x == 32) ≡ false) (decimal p.space) (58 ∷ decimal p.page) (number_lacks p.space (wide _ h.0))
+    (All-cons (λ x. (x == 32) ≡ false) 58 (decimal p.page) refl (number_lacks p.page (wide _ h.1)))
+
+page_of-text : (p : PageId) → IsPageId p → page_of (page_text p) ≡ Some p
+page_of-text p h =
+    let cuts = cut_here 58 (decimal p.space) (decimal p.page) (decimal_lacks 58 p.space (inr (lit< tt)) (wide _ h.0)) in
+    let space = number_of-decimal (2 ^ 32) p.space (wide _ h.0) h.0 in
+    let page = number_of-decimal (2 ^ 32) p.page (wide _ h.1) h.1 in
+    rw cuts (rw space (rw page refl))
+
+page_is : (w : List ℕ) (p : PageId) → page_of w ≡ Some p → (w ≡ page_text p) × IsPageId p
+page_is w p e = option_and_then_some _ (cut_at 58 w) p e (λ r cuts e1. option_and_then_some _ (number_of (2 ^ 32) r.0) p e1 (λ s space e2. option_and_then_some _ (number_of (2 ^ 32) r.1) p e2 (λ k page e3.
+    let first = number_is (2 ^ 32) s r.0 (lit≤ tt) space in
+    let second = number_is (2 ^ 32) k r.1 (lit≤ tt) page in
+    let whole : w ≡ r.0 ++ 58 ∷ r.1 = cut_is 58 w r.0 r.1 cuts in
+    let same : ◌≡◌ {A = PageId} (record { space = s; page = k }) p = cc in
+    let spelled : w ≡ decimal s ++ 58 ∷ decimal k = whole ∙ ap (λ a. a ++ 58 ∷ r.1) first.0 ∙ ap (λ b. decimal s ++ 58 ∷ b) second.0 in
+    subst (λ (q : PageId). (w ≡ page_text q) × IsPageId q) same (spelled, (first.1, second.1)))))
+
+-- how many words stand behind the keyword
+one_some : {P : Type 0} (f : List ℕ → Option Item) (args : List (List ℕ)) (i : Item) → one f args ≡ Some i → ((a : List ℕ) → args ≡ a ∷ [] → f a ≡ Some i → P) → P
+one_some f [] i e k = let bad : ◌≡◌ {A = Option Item} None (Some i) = e in absurd (cc)
+one_some f (a ∷ []) i e k = k a refl e
+one_some f (a ∷ b ∷ bs) i e k = let bad : ◌≡◌ {A = Option Item} None (Some i) = e in absurd (cc)
+
+two_some : {P : Type 0} (f : List ℕ → List ℕ → Option Item) (args : List (List ℕ)) (i : Item) → two f args ≡ Some i → ((a b : List ℕ) → args ≡ a ∷ b ∷ [] → f a b ≡ Some i → P) → P
+two_some f [] i e k = let bad : ◌≡◌ {A = Option Item} None (Some i) = e in absurd (cc)
+two_some f (a ∷ []) i e k = let bad : ◌≡◌ {A = Option Item} None (Some i) = e in absurd (cc)
+two_some f (a ∷ b ∷ []) i e k = k a b refl e
+two_some f (a ∷ b ∷ c ∷ cs) i e k = let bad : ◌≡◌ {A = Option Item} None (Some i) = e in absurd (cc)
+
+three_some : {P : Type 0} (f : List ℕ → List ℕ → List ℕ → Option Item) (args : List (List ℕ)) (i : Item) → three f args ≡ Some i → ((a b c : List ℕ) → args ≡ a ∷ b ∷ c ∷ [] → f a b c ≡ Some i → P) → P
+three_some f [] i e k = let bad : ◌≡◌ {A = Option Item} None (Some i) = e in absurd (cc)
+three_some f (a ∷ []) i e k = let bad : ◌≡◌ {A = Option Item} None (Some i) = e in absurd (cc)
+three_some f (a ∷ b ∷ []) i e k = let bad : ◌≡◌ {A = Option Item} None (Some i) = e in absurd (cc)
+three_some f (a ∷ b ∷ c ∷ []) i e k = k a b c refl e
+three_some f (a ∷ b ∷ c ∷ d ∷ ds) i e k = let bad : ◌≡◌ {A = Option Item} None (Some i) = e in absurd (cc)
+
+-- keywords
+keyword_is : (w : List ℕ) (ks : List Keyword) (k : Keyword) → found w ks ≡ Some k → w ≡ keyword_text k
+keyword_is w [] k e = let bad : ◌≡◌ {A = Option Keyword} None (Some k) = e in absurd (cc)
+keyword_is w (m ∷ ks) k e = cases (λ d. keyword_is w ks k d) (bytes_eq w (keyword_text m)) refl
+  where
+    cases : (found w ks ≡ Some k → w ≡ keyword_text k) → (b : Bool) → bytes_eq w (keyword_text m) ≡ b → w ≡ keyword_text k
+    cases next true t =
+        let same : w ≡ keyword_text m = search (rules, bytes_eq-Decides w (keyword_text m), t) in
+        let told : Some m ≡ Some k = rw t at e in
+        let alike : m ≡ k = cc in same ∙ ap keyword_text alike
+    cases next false t = next (rw t at e)
+
+setting_found : (name : Setting) → keyword_of (setting_name name) ≡ Some (keyword.Set name)
+setting_found Page = refl
+setting_found Frames = refl
+setting_found Size = refl
+setting_found Max = refl
+
+setting_lacks : (name : Setting) → Lacks 32 (setting_name name)
+setting_lacks name = All-from_recursion (λ x. (x == 32) ≡ false) (setting_name name) (each name)
+  where
+    each : (m : Setting) → AllByRecursion (λ x. (x == 32) ≡ false) (setting_name m)
+    each Page = search rules
+    each Frames = search rules
+    each Size = search rules
+    each Max = search rules
+
+literal_lacks : (w : List ℕ) → AllByRecursion (λ x. (x == 32) ≡ false) w → Lacks 32 w
+literal_lacks w h = All-from_recursion (λ x. (x == 32) ≡ false) w h
+
+-- the words of what is said
+abbrev IsWords : Item → List (List ℕ) → Type 0
+IsWords i ws = (ws ≡ item_words i) × IsTypedItem i
+
+set_words : (name : Setting) (args : List (List ℕ)) (i : Item) → set_of name args ≡ Some i → IsWords i (setting_name name ∷ args)
+set_words name args i e = one_some _ args i e (λ v shape e1. option_and_then_some _ (number_of (2 ^ 64) v) i e1 (λ n ne e2.
+    let a = number_is (2 ^ 64) n v (lit≤ tt) ne in
+    let same : Set name n ≡ i = cc in
+    let words : args ≡ decimal n ∷ [] = simp (shape, a.0) in
+    subst (λ (j : Item). IsWords j (setting_name name ∷ args)) same (ap (λ r. setting_name name ∷ r) words, a.1)))
+
+thread_words : (args : List (List ℕ)) (i : Item) → thread_of args ≡ Some i → IsWords i (codes "thread" ∷ args)
+thread_words args i e = one_some _ args i e (λ v shape e1. option_and_then_some _ (number_of (2 ^ 64) v) i e1 (λ k ke e2.
+    let a = number_is (2 ^ 64) k v (lit≤ tt) ke in
+    let same : Thread k ≡ i = cc in
+    let words : args ≡ decimal k ∷ [] = simp (shape, a.0) in
+    subst (λ (j : Item). IsWords j (codes "thread" ∷ args)) same (ap (λ r. codes "thread" ∷ r) words, a.1)))
+
+fix_words : (args : List (List ℕ)) (i : Item) → fix_of args ≡ Some i → IsWords i (codes "fix" ∷ args)
+fix_words args i e = two_some _ args i e (λ p t shape e1. option_and_then_some _ (page_of p) i e1 (λ page pe e2. option_and_then_some _ (number_of (2 ^ 64) t) i e2 (λ now te e3.
+    let a = page_is p page pe in
+    let b = number_is (2 ^ 64) now t (lit≤ tt) te in
+    let same : Does (Fix page now) ≡ i = cc in
+    let words : args ≡ page_text page ∷ decimal now ∷ [] = simp (shape, a.0, b.0) in
+    subst (λ (j : Item). IsWords j (codes "fix" ∷ args)) same (ap (λ r. codes "fix" ∷ r) words, (a.1, b.1)))))
+
+read_words : (args : List (List ℕ)) (i : Item) → read_of args ≡ Some i → IsWords i (codes "read" ∷ args)
+read_words args i e = three_some _ args i e (λ p x y shape e1. option_and_then_some _ (page_of p) i e1 (λ page pe e2. option_and_then_some _ (number_of (2 ^ 32) x) i e2 (λ at xe e3. option_and_then_some _ (number_of (2 ^ 32) y) i e3 (λ len ye e4.
+    let a = page_is p page pe in
+    let b = number_is (2 ^ 32) at x (lit≤ tt) xe in
+    let c = number_is (2 ^ 32) len y (lit≤ tt) ye in
+    let same : Does (Read page at len) ≡ i = cc in
+    let words : args ≡ page_text page ∷ decimal at ∷ decimal len ∷ [] = simp (shape, a.0, b.0, c.0) in
+    subst (λ (j : Item). IsWords j (codes "read" ∷ args)) same (ap (λ r. codes "read" ∷ r) words, (a.1, b.1, c.1))))))
+
+unfix_words : (args : List (List ℕ)) (i : Item) → unfix_of args ≡ Some i → IsWords i (codes "unfix" ∷ args)
+unfix_words args i e = one_some _ args i e (λ p shape e1. option_and_then_some _ (page_of p) i e1 (λ page pe e2.
+    let a = page_is p page pe in
+    let same : Does (Unfix page) ≡ i = cc in
+    let words : args ≡ page_text page ∷ [] = simp (shape, a.0) in
+    subst (λ (j : Item). IsWords j (codes "unfix" ∷ args)) same (ap (λ r. codes "unfix" ∷ r) words, a.1)))
+
+said_words : (k : Keyword) (args : List (List ℕ)) (i : Item) → said_by k args ≡ Some i → IsWords i (keyword_text k ∷ args)
+said_words (keyword.Set name) args i e = set_words name args i e
+said_words keyword.Thread args i e = thread_words args i e
+said_words keyword.Fix args i e = fix_words args i e
+said_words keyword.Read args i e = read_words args i e
+said_words keyword.Unfix args i e = unfix_words args i e
+
+-- what is read is spelled so
+pub read_is_spelled : (line : List ℕ) (i : Item) → line_says line ≡ Some i → IsSpelled i line
+read_is_spelled line i e = cases (is_nothing line) refl
+  where
+    cases : (b : Bool) → is_nothing line ≡ b → IsSpelled i line
+    cases true t = let told : Some Nothing ≡ Some i = rw t at e in let same : Nothing ≡ i = cc in subst (λ (j : Item). IsSpelled j line) same t
+    cases false t = words (slice_split (λ x. x == 32) line) refl (rw t at e)
+      where
+        words : (ws : List (List ℕ)) → slice_split (λ x. x == 32) line ≡ ws → words_say ws ≡ Some i → IsSpelled i line
+        words [] cut told = let bad : ◌≡◌ {A = Option Item} None (Some i) = told in absurd (cc)
+        words (w ∷ args) cut told = option_and_then_some _ (keyword_of w) i told (λ k named said.
+            let text : w ≡ keyword_text k = keyword_is w keywords k named in
+            let here = said_words k args i said in
+            let joined : line ≡ join_with_byte 32 (item_words i) = sym (join_with_byte-slice_split 32 line) ∙ ap (join_with_byte 32) (cut ∙ ap (λ x. x ∷ args) text ∙ here.0) in
+            spelled i joined here.1 k here.0)
+          where
+            spelled : (j : Item) → line ≡ join_with_byte 32 (item_words j) → IsTypedItem j → (k : Keyword) → (keyword_text k ∷ args) ≡ item_words j → IsSpelled j line
+            spelled Nothing joined typed k full = let bad : ◌≡◌ {A = List (List ℕ)} (keyword_text k ∷ args) [] = full in absurd (cc)
+            spelled (Set name n) joined typed k full = (joined, typed)
+            spelled (Thread n) joined typed k full = (joined, typed)
+            spelled (Does c) joined typed k full = (joined, typed)
+
+-- what is spelled so is read
+by_words : (line w : List ℕ) (ws : List (List ℕ)) (i : Item) → is_nothing (join_with_byte 32 (w ∷ ws)) ≡ false → Lacks 32 w → AllByRecursion (Lacks 32) ws
+    → words_say (w ∷ ws) ≡ Some i → line ≡ join_with_byte 32 (w ∷ ws) → line_says line ≡ Some i
+by_words line w ws i something lacks lack says e = let says_something : is_nothing line ≡ false = ap is_nothing e ∙ something in
+    let cut : slice_split (λ x. x == 32) line ≡ w ∷ ws = ap (slice_split (λ x. x == 32)) e ∙ words_joined w ws lacks lack in
+    rw says_something (rw cut says)
+
+command_read : (c : Command) (line : List ℕ) → line ≡ join_with_byte 32 (command_words c) → IsTyped c → line_says line ≡ Some (Does c)
+command_read (Fix p now) line e h = by_words line (codes "fix") (page_text p ∷ decimal now ∷ []) (Does (Fix p now)) refl (literal_lacks (codes "fix") (search rules)) (page_lacks p h.0, (number_lacks now h.1, tt))
+    (rw (page_of-text p h.0) (rw (number_of-decimal (2 ^ 64) now h.1 h.1) refl)) e
+command_read (Read p at len) line e h = by_words line (codes "read") (page_text p ∷ decimal at ∷ decimal len ∷ []) (Does (Read p at len)) refl (literal_lacks (codes "read") (search rules)) (page_lacks p h.0, (number_lacks at (wide _ h.1), (number_lacks len (wide _ h.2), tt)))
+    (rw (page_of-text p h.0) (rw (number_of-decimal (2 ^ 32) at (wide _ h.1) h.1) (rw (number_of-decimal (2 ^ 32) len (wide _ h.2) h.2) refl))) e
+command_read (Unfix p) line e h = by_words line (codes "unfix") (page_text p ∷ []) (Does (Unfix p)) refl (literal_lacks (codes "unfix") (search rules)) (page_lacks p h, tt)
+    (rw (page_of-text p h) refl) e
+
+set_says : (name : Setting) (n : ℕ) → n < 2 ^ 64 → words_say (setting_name name ∷ decimal n ∷ []) ≡ Some (Set name n)
+set_says name n h = rw (setting_found name) (rw (number_of-decimal (2 ^ 64) n h h) refl)
+
+set_something : (name : Setting) (w : List ℕ) → is_nothing (join_with_byte 32 (setting_name name ∷ w ∷ [])) ≡ false
+set_something Page w = refl
+set_something Frames w = refl
+set_something Size w = refl
+set_something Max w = refl
+
+pub spelled_is_read : (line : List ℕ) (i : Item) → IsSpelled i line → line_says line ≡ Some i
+spelled_is_read line Nothing h = let nothing : is_nothing line ≡ true = h in rw nothing refl
+spelled_is_read line (Set name n) h = by_words line (setting_name name) (decimal n ∷ []) (Set name n) (set_something name (decimal n)) (setting_lacks name) (number_lacks n h.1, tt) (set_says name n h.1) h.0
+spelled_is_read line (Thread k) h = by_words line (codes "thread") (decimal k ∷ []) (Thread k) refl (literal_lacks (codes "thread") (search rules)) (number_lacks k h.1, tt) (rw (number_of-decimal (2 ^ 64) k h.1 h.1) refl) h.0
+spelled_is_read line (Does c) h = command_read c line h.0 h.1

@@ -1,0 +1,8 @@
+pub mod Numbers
+pub mod Cuts
+pub mod Exact
+pub mod Taking
+pub mod Unique
+pub mod Kept
+pub mod Threads
+pub mod Called

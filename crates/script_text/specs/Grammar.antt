@@ -1,0 +1,118 @@
+-- What the lines of a script make, one after the other: ranges, order and limits.
+use Rattle.std.specs.Prelude.{ℕ, Bool, true, false, List, [], ◌∷◌, ◌++◌, ◌≡◌, ◌==◌, ◌+◌, ◌-◌, ◌^◌, ◌&&◌, nat_le, nat_lt, not, Option, None, Some, if◌then◌else◌, length, slice_index_or, slice_set}
+use Rattle.std.specs.List.{slice_split}
+use Rattle.page_ids.specs.Size.{page_bytes, is_page_size}
+use Rattle.page_ids.specs.declared.config.Config.{Config}
+use Rattle.page_ids.specs.declared.ids.PageSize.{PageSize}
+use Rattle.page_ids.specs.declared.ids.PageSize.TheVariants.{Kib4, Kib8, Kib16}
+use Rattle.script_text.specs.Text.{IsSpelled}
+use Rattle.script_text.specs.declared.script.Command.{Command}
+use Rattle.script_text.specs.declared.script.Command.TheVariants.{Fix, Read, Unfix}
+use Rattle.script_text.specs.declared.lines.Setting.{Setting}
+use Rattle.script_text.specs.declared.lines.Setting.TheVariants.{Page, Frames, Size, Max}
+use Rattle.script_text.specs.declared.lines.Item.{Item}
+use Rattle.script_text.specs.declared.lines.Item.TheVariants.{Nothing, Set, Thread, Does}
+
+-- What the lines so far said: the pool's numbers, which settings were set, the commands of each thread, and how many these are.
+pub record SoFar : Type 0 where
+  pub config : Config
+  pub settings : List Bool
+  pub threads : List (List Command)
+  pub commands : ℕ
+
+-- the pool's numbers where a script sets none
+abbrev pub usual : Config
+usual = record {
+  page = Kib16;
+  instances = 1;
+  frames = 8192;
+  size = 134217728;
+  max = 2;
+  old_pct = 37;
+  old_time = 1000;
+  old_min = 512;
+  lsn = 8192;
+  first = 0;
+}
+
+abbrev pub nothing_said : SoFar
+nothing_said = record { config = usual; settings = false ∷ false ∷ false ∷ false ∷ []; threads = []; commands = 0 }
+
+-- the setting's place among those that a script may set
+abbrev pub place_of : Setting → ℕ
+place_of Page = 0
+place_of Frames = 1
+place_of Size = 2
+place_of Max = 3
+
+abbrev pub was_set : SoFar → Setting → Bool
+was_set s name = slice_index_or s.settings (place_of name) false
+
+abbrev pub is_within : ℕ → ℕ → ℕ → Bool
+is_within low high n = nat_le low n && nat_le n high
+
+-- the ranges of the settings
+abbrev pub is_settable : Setting → ℕ → Bool
+is_settable Page n = is_page_size n
+is_settable Frames n = is_within 1 8192 n
+is_settable Size n = is_within 1 (2 ^ 31) n
+is_settable Max n = is_within 1 16 n
+
+-- the size of so many bytes
+abbrev pub size_of : ℕ → PageSize
+size_of n = if n == 4096 then Kib4 else if n == 8192 then Kib8 else Kib16
+
+abbrev pub with_setting : Config → Setting → ℕ → Config
+with_setting c Page n = record c { page = size_of n }
+with_setting c Frames n = record c { frames = n }
+with_setting c Size n = record c { size = n }
+with_setting c Max n = record c { max = n }
+
+-- the ranges of a command's numbers, for pages of this size
+abbrev pub is_in_range : PageSize → Command → Bool
+is_in_range size (Fix p now) = true
+is_in_range size (Read p at len) = is_within 1 256 len && nat_le 38 at && nat_le (at + len) (page_bytes size - 8)
+is_in_range size (Unfix p) = true
+
+-- the command stands at the end of the last thread
+abbrev pub with_command : List (List Command) → Command → List (List Command)
+with_command threads c = slice_set threads (length threads - 1) (slice_index_or threads (length threads - 1) [] ++ c ∷ [])
+
+-- What an item makes of what was said, where it may stand there: settings come first, each at most once; then `thread 1`; then its
+-- commands, at most 64.
+abbrev pub step : SoFar → Item → Option SoFar
+step s Nothing = Some s
+step s (Set name n) =
+    if (length s.threads == 0) && is_settable name n && not (was_set s name)
+    then Some (record s { config = with_setting s.config name n; settings = slice_set s.settings (place_of name) true })
+    else None
+step s (Thread k) =
+    if (k == length s.threads + 1) && nat_le k 1
+    then Some (record s { threads = s.threads ++ [] ∷ [] })
+    else None
+step s (Does c) =
+    if nat_lt 0 (length s.threads) && is_in_range s.config.page c && nat_lt s.commands 64
+    then Some (record s { threads = with_command s.threads c; commands = s.commands + 1 })
+    else None
+
+-- what a line makes of it
+abbrev pub Line : SoFar → List ℕ → SoFar → Type 0
+Line old line new = (i : Item) × IsSpelled i line × (step old i ≡ Some new)
+
+-- the line may not stand there
+abbrev pub IsRefused : SoFar → List ℕ → Type 0
+IsRefused old line = (new : SoFar) → Line old line new → ⊥
+
+-- whether the line may stand there, and what it then makes
+abbrev pub Takes : SoFar → List ℕ → Bool → SoFar → Type 0
+Takes old line true new = Line old line new
+Takes old line false new = IsRefused old line
+
+-- what lines make of it
+abbrev pub AreRead : SoFar → List (List ℕ) → SoFar → Type 0
+AreRead old [] new = new ≡ old
+AreRead old (line ∷ lines) new = (mid : SoFar) × Line old line mid × AreRead mid lines new
+
+-- cut at each newline; what follows the last one is a line too, mostly an empty one
+abbrev pub lines_of : List ℕ → List (List ℕ)
+lines_of bytes = slice_split (λ b. b == 10) bytes

@@ -1,0 +1,9 @@
+pub mod Plan
+pub mod Text
+pub mod Grammar
+pub mod Faults
+pub mod Verdict
+pub mod Within
+pub mod Reading
+pub mod Left
+pub mod CommandLine

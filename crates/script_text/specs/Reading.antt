@@ -1,0 +1,100 @@
+-- What a line says, read from the left. The code is proved against these functions, and they against the spelling.
+use Rattle.std.specs.Prelude.{ℕ, List, [], ◌∷◌, ◌+◌, ◌-◌, ◌*◌, ◌^◌, ◌==◌, ◌&&◌, nat_le, nat_lt, Option, None, Some, if◌then◌else◌, codes, length}
+use Rattle.std.specs.Str.{bytes_eq}
+use Rattle.std.specs.List.{slice_split, position_or_len, before_first, after_first}
+use Rattle.std.specs.Option.{option_and_then}
+use Rattle.page_ids.specs.declared.ids.PageId.{PageId}
+use Rattle.script_text.specs.Text.{is_nothing, setting_name}
+use Rattle.script_text.specs.declared.script.Command.TheVariants.{Fix, Read, Unfix}
+use Rattle.script_text.specs.declared.lines.Setting.{Setting}
+use Rattle.script_text.specs.declared.lines.Setting.TheVariants.{Page, Frames, Size, Max}
+use Rattle.script_text.specs.declared.lines.Item.{Item}
+use Rattle.script_text.specs.declared.lines.Item.TheVariants.{Nothing, Set, Thread, Does}
+use Rattle.script_text.specs.declared.lines.Keyword.{Keyword}
+use Rattle.script_text.specs.declared.lines.Keyword.TheVariants as keyword
+
+infixl 10 ◌>>=◌
+abbrev pub ◌>>=◌ : {A B : Type 0} → Option A → (A → Option B) → Option B
+o >>= f = option_and_then f o
+
+-- the number below the limit that the digits write when they follow those of n
+abbrev pub digits_after : ℕ → ℕ → List ℕ → Option ℕ
+digits_after limit n [] = Some n
+digits_after limit n (c ∷ cs) = if nat_le 48 c && nat_le c 57 && nat_lt (n * 10 + (c - 48)) limit then digits_after limit (n * 10 + (c - 48)) cs else None
+
+-- the number below the limit that a word writes: digits alone, with no leading zero
+abbrev pub number_of : ℕ → List ℕ → Option ℕ
+number_of limit [] = None
+number_of limit (c ∷ []) = digits_after limit 0 (c ∷ [])
+number_of limit (c ∷ d ∷ cs) = if c == 48 then None else digits_after limit 0 (c ∷ d ∷ cs)
+
+-- before and after the first such byte
+abbrev pub cut_at : ℕ → List ℕ → Option (List ℕ × List ℕ)
+cut_at c bs = if nat_lt (position_or_len (λ b. b == c) bs) (length bs) then Some (before_first (λ b. b == c) bs, after_first (λ b. b == c) bs) else None
+
+abbrev pub page_of : List ℕ → Option PageId
+page_of word = cut_at 58 word >>= λ r. number_of (2 ^ 32) r.0 >>= λ space. number_of (2 ^ 32) r.1 >>= λ page. Some (record { space = space; page = page })
+
+abbrev pub keyword_text : Keyword → List ℕ
+keyword_text (keyword.Set name) = setting_name name
+keyword_text keyword.Thread = codes "thread"
+keyword_text keyword.Fix = codes "fix"
+keyword_text keyword.Read = codes "read"
+keyword_text keyword.Unfix = codes "unfix"
+
+abbrev pub found : List ℕ → List Keyword → Option Keyword
+found w [] = None
+found w (k ∷ ks) = if bytes_eq w (keyword_text k) then Some k else found w ks
+
+abbrev pub keywords : List Keyword
+keywords =
+    keyword.Set Page ∷ keyword.Set Frames ∷ keyword.Set Size ∷ keyword.Set Max
+    ∷ keyword.Thread ∷ keyword.Fix ∷ keyword.Read ∷ keyword.Unfix ∷ []
+
+abbrev pub keyword_of : List ℕ → Option Keyword
+keyword_of w = found w keywords
+
+-- a kind of line with so many words behind its keyword
+abbrev pub one : (List ℕ → Option Item) → List (List ℕ) → Option Item
+one f (a ∷ []) = f a
+one f _ = None
+
+abbrev pub two : (List ℕ → List ℕ → Option Item) → List (List ℕ) → Option Item
+two f (a ∷ b ∷ []) = f a b
+two f _ = None
+
+abbrev pub three : (List ℕ → List ℕ → List ℕ → Option Item) → List (List ℕ) → Option Item
+three f (a ∷ b ∷ c ∷ []) = f a b c
+three f _ = None
+
+-- the words behind the keyword, one kind of line each
+abbrev pub set_of : Setting → List (List ℕ) → Option Item
+set_of name = one (λ v. number_of (2 ^ 64) v >>= λ n. Some (Set name n))
+
+abbrev pub thread_of : List (List ℕ) → Option Item
+thread_of = one (λ k. number_of (2 ^ 64) k >>= λ n. Some (Thread n))
+
+abbrev pub fix_of : List (List ℕ) → Option Item
+fix_of = two (λ p t. page_of p >>= λ page. number_of (2 ^ 64) t >>= λ now. Some (Does (Fix page now)))
+
+abbrev pub read_of : List (List ℕ) → Option Item
+read_of = three (λ p a l. page_of p >>= λ page. number_of (2 ^ 32) a >>= λ at. number_of (2 ^ 32) l >>= λ len. Some (Does (Read page at len)))
+
+abbrev pub unfix_of : List (List ℕ) → Option Item
+unfix_of = one (λ p. page_of p >>= λ page. Some (Does (Unfix page)))
+
+abbrev pub said_by : Keyword → List (List ℕ) → Option Item
+said_by (keyword.Set name) args = set_of name args
+said_by keyword.Thread args = thread_of args
+said_by keyword.Fix args = fix_of args
+said_by keyword.Read args = read_of args
+said_by keyword.Unfix args = unfix_of args
+
+abbrev pub words_say : List (List ℕ) → Option Item
+words_say [] = None
+words_say (w ∷ args) = do
+  k ← keyword_of w
+  said_by k args
+
+abbrev pub line_says : List ℕ → Option Item
+line_says line = if is_nothing line then Some Nothing else words_say (slice_split (λ x. x == 32) line)

@@ -1,0 +1,54 @@
+-- How the lines of a script are spelled: words with single spaces between them.
+use Rattle.std.specs.Prelude.{ℕ, Bool, true, List, [], ◌∷◌, ◌≡◌, ◌<◌, ◌^◌, ◌==◌, IsTrue, codes, ⊤}
+use Rattle.std.specs.Fmt.{decimal}
+use Rattle.std.specs.List.{join_with_byte}
+use Rattle.page_ids.specs.Spelling.{page_text}
+use Rattle.page_ids.specs.declared.ids.PageId.{PageId}
+use Rattle.script_text.specs.declared.script.Command.{Command}
+use Rattle.script_text.specs.declared.script.Command.TheVariants.{Fix, Read, Unfix}
+use Rattle.script_text.specs.declared.lines.Setting.{Setting}
+use Rattle.script_text.specs.declared.lines.Setting.TheVariants.{Page, Frames, Size, Max}
+use Rattle.script_text.specs.declared.lines.Item.{Item}
+use Rattle.script_text.specs.declared.lines.Item.TheVariants.{Nothing, Set, Thread, Does}
+
+abbrev pub setting_name : Setting → List ℕ
+setting_name Page = codes "page"
+setting_name Frames = codes "frames"
+setting_name Size = codes "size"
+setting_name Max = codes "max"
+
+abbrev pub command_words : Command → List (List ℕ)
+command_words (Fix p now) = codes "fix" ∷ page_text p ∷ decimal now ∷ []
+command_words (Read p at len) = codes "read" ∷ page_text p ∷ decimal at ∷ decimal len ∷ []
+command_words (Unfix p) = codes "unfix" ∷ page_text p ∷ []
+
+abbrev pub item_words : Item → List (List ℕ)
+item_words Nothing = []
+item_words (Set name n) = setting_name name ∷ decimal n ∷ []
+item_words (Thread k) = codes "thread" ∷ decimal k ∷ []
+item_words (Does c) = command_words c
+
+-- each number fits its type
+abbrev pub IsPageId : PageId → Type 0
+IsPageId p = (p.space < 2 ^ 32) × (p.page < 2 ^ 32)
+
+abbrev pub IsTyped : Command → Type 0
+IsTyped (Fix p now) = IsPageId p × (now < 2 ^ 64)
+IsTyped (Read p at len) = IsPageId p × (at < 2 ^ 32) × (len < 2 ^ 32)
+IsTyped (Unfix p) = IsPageId p
+
+abbrev pub IsTypedItem : Item → Type 0
+IsTypedItem Nothing = ⊤
+IsTypedItem (Set name n) = n < 2 ^ 64
+IsTypedItem (Thread k) = k < 2 ^ 64
+IsTypedItem (Does c) = IsTyped c
+
+-- an empty line, or a comment
+abbrev pub is_nothing : List ℕ → Bool
+is_nothing [] = true
+is_nothing (b ∷ bytes) = b == 35
+
+-- a line says nothing, or it is the one spelling of what it says
+abbrev pub IsSpelled : Item → List ℕ → Type 0
+IsSpelled Nothing line = IsTrue (is_nothing line)
+IsSpelled i line = (line ≡ join_with_byte 32 (item_words i)) × IsTypedItem i

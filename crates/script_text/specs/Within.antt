@@ -1,0 +1,34 @@
+-- The limits that every script keeps.
+use Rattle.std.specs.Prelude.{◌≡◌, ◌+◌, ◌-◌, ◌<◌, ◌≤◌, ◌^◌, length}
+use Rattle.std.specs.List.{AllByRecursion}
+use Rattle.page_ids.specs.Chunks.{chunks_of}
+use Rattle.page_ids.specs.Size.{page_bytes}
+use Rattle.page_ids.specs.declared.config.Config.{Config}
+use Rattle.page_ids.specs.declared.ids.PageSize.{PageSize}
+use Rattle.script_text.specs.Plan.{Plan, commands_of}
+use Rattle.script_text.specs.Text.{IsPageId}
+use Rattle.script_text.specs.Faults.{pages_named}
+use Rattle.script_text.specs.declared.script.Command.{Command}
+use Rattle.script_text.specs.declared.script.Command.TheVariants.{Fix, Read, Unfix}
+
+-- the pool's numbers, each in its range
+pub record IsSettled (c : Config) : Type 0 where
+  pub instances : c.instances ≡ 1
+  pub frames : (1 ≤ c.frames) × (c.frames ≤ 8192)
+  pub size : (1 ≤ c.size) × (c.size ≤ 2 ^ 31)
+  pub max : (1 ≤ c.max) × (c.max ≤ 16)
+  pub first : c.first ≡ 0
+
+-- a command's numbers, each in its range for pages of this size
+abbrev pub IsInRange : PageSize → Command → Type 0
+IsInRange size (Fix p now) = IsPageId p × (now < 2 ^ 64)
+IsInRange size (Read p at len) = IsPageId p × (1 ≤ len) × (len ≤ 256) × (38 ≤ at) × (at + len ≤ page_bytes size - 8)
+IsInRange size (Unfix p) = IsPageId p
+
+pub record IsWithin (plan : Plan) : Type 0 where
+  pub config : IsSettled plan.config
+  pub chunks : chunks_of plan.config ≡ 1
+  pub threads : length plan.threads ≤ 1
+  pub few : length (commands_of plan) ≤ 64
+  pub ranges : AllByRecursion (IsInRange plan.config.page) (commands_of plan)
+  pub pages : pages_named (commands_of plan) ≤ plan.config.frames

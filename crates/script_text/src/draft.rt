@@ -1,0 +1,203 @@
+//! What the lines of a script said so far.
+ghost use Rattle.std.specs.Prelude.{◌≡◌, ◌<◌, map, vec_len, IfOk, OnOk, Some, None, true, if◌then◌else◌};
+ghost use Rattle.page_ids.specs.Size.{is_page_size};
+ghost use Rattle.script_text.specs.Grammar.{place_of, is_settable, size_of, with_setting, is_in_range, with_command, step, usual, nothing_said};
+ghost use Rattle.script_text.specs.Verdict.{plan_of};
+
+use crate::lines::{Item, Setting};
+use crate::script::{Command, Script};
+use page_ids::{Config, PageSize};
+use std::alloc::{AllocError, Global};
+use std::marker::Model;
+
+/// A script in the making.
+#[derive(Debug, Drop)]
+pub struct Draft {
+    config: Config,
+    settings: [bool; 4],
+    threads: Vec<Vec<Command>>,
+    commands: u32,
+}
+
+impl Model for Draft {
+    ghost use Rattle.std.specs.Prelude.{map};
+    ghost use Rattle.script_text.specs.Grammar.{SoFar};
+
+    ghost Value = { SoFar };
+
+    ghost view = { λ d. record { config = d.config; settings = d.settings; threads = map (λ t. t.items) d.threads.items; commands = d.commands } };
+}
+
+/// The numbers of a pool where a script sets none.
+fn usual() -> Config
+    ensures { result ≡ usual }
+{
+    Config {
+        page: PageSize::Kib16,
+        instances: 1,
+        frames: 8192,
+        size: 134217728,
+        max: 2,
+        old_pct: 37,
+        old_time: 1000,
+        old_min: 512,
+        lsn: 8192,
+        first: 0,
+    }
+}
+
+fn place(setting: Setting) -> usize
+    ensures place { result ≡ place_of setting }
+    ensures few { result < 4 }
+{
+    match setting {
+        Setting::Page => 0,
+        Setting::Frames => 1,
+        Setting::Size => 2,
+        Setting::Max => 3,
+    }
+}
+
+fn is_settable(setting: Setting, n: u64) -> bool
+    ensures { result ≡ is_settable setting n }
+{
+    match setting {
+        Setting::Page => n == 4096 || n == 8192 || n == 16384,
+        Setting::Frames => 1 <= n && n <= 8192,
+        Setting::Size => 1 <= n && n <= 2147483648,
+        Setting::Max => 1 <= n && n <= 16,
+    }
+}
+
+fn page_size(bytes: u64) -> PageSize
+    requires range { is_page_size bytes ≡ true }
+    ensures { result ≡ size_of bytes }
+{
+    match PageSize::of(bytes as u32) {
+        Some(size) => size,
+        None => unreachable!(),
+    }
+}
+
+fn with_setting(config: Config, setting: Setting, n: u64) -> Config
+    requires range { is_settable setting n ≡ true }
+    ensures { result ≡ with_setting config setting n }
+{
+    match setting {
+        Setting::Page => Config {
+            page: page_size(n),
+            ..config
+        },
+        Setting::Frames => Config {
+            frames: n as u32,
+            ..config
+        },
+        Setting::Size => Config { size: n, ..config },
+        Setting::Max => Config {
+            max: n as u32,
+            ..config
+        },
+    }
+}
+
+fn is_in_range(size: PageSize, command: &Command) -> bool
+    ensures { result ≡ is_in_range size command.now }
+{
+    match command {
+        Command::Fix { .. } => true,
+        Command::Read { at, len, .. } => {
+            let end = u64::from(*at) + u64::from(*len);
+            1 <= *len && *len <= 256 && 38 <= *at && end <= u64::from(size.bytes()) - 8
+        }
+        Command::Unfix { .. } => true,
+    }
+}
+
+/// Puts the command at the end of the last thread.
+fn push_command(threads: &mut Vec<Vec<Command>>, command: Command) -> Result<(), AllocError>
+    requires some { 0 < vec_len threads.old }
+    ensures { OnOk result
+        (map (λ t. t.items) threads.new.items ≡ with_command (map (λ t. t.items) threads.old.items) command) }
+{
+    let last = threads.len() - 1;
+    let thread = &mut threads[last];
+    thread.push(command)?;
+    Ok(())
+}
+
+impl Draft {
+    /// Nothing was said.
+    pub fn new(alloc: Global) -> Draft
+        ensures { result ≡ nothing_said }
+    {
+        Draft {
+            config: usual(),
+            settings: [false, false, false, false],
+            threads: Vec::new(alloc),
+            commands: 0,
+        }
+    }
+
+    fn set(&mut self, setting: Setting, n: u64) -> bool
+        ensures { step self.old (Item.Set setting n) ≡ (if result then Some self.new else None) }
+    {
+        let at = place(setting);
+        if !self.threads.is_empty() || !is_settable(setting, n) || self.settings[at] {
+            return false;
+        }
+        self.config = with_setting(self.config, setting, n);
+        self.settings[at] = true;
+        true
+    }
+
+    fn thread(&mut self, number: u64) -> Result<bool, AllocError>
+        ensures { IfOk result (λ good.
+            step self.old (Item.Thread number) ≡ (if good then Some self.new else None)) }
+    {
+        if number != self.threads.len() as u64 + 1 || number > 1 {
+            return Ok(false);
+        }
+        let alloc = *self.threads.allocator();
+        self.threads.push(Vec::new(alloc))?;
+        Ok(true)
+    }
+
+    fn command(&mut self, command: Command) -> Result<bool, AllocError>
+        ensures { IfOk result (λ good.
+            step self.old (Item.Does command) ≡ (if good then Some self.new else None)) }
+    {
+        if self.threads.is_empty()
+            || !is_in_range(self.config.page, &command)
+            || self.commands >= 64
+        {
+            return Ok(false);
+        }
+        push_command(&mut self.threads, command)?;
+        self.commands += 1;
+        Ok(true)
+    }
+
+    /// Takes what a line says, and answers whether it may stand there. After want of memory the draft is of no more use.
+    pub fn take(&mut self, item: Item) -> Result<bool, AllocError>
+        ensures { IfOk result (λ good. step self.old item ≡ (if good then Some self.new else None)) }
+    {
+        match item {
+            Item::Nothing => Ok(true),
+            Item::Set { setting, value } => Ok(self.set(setting, value)),
+            Item::Thread { number } => self.thread(number),
+            Item::Does { command } => self.command(command),
+        }
+    }
+
+    /// The script; takes no memory.
+    pub fn finish(self) -> Script
+        ensures { result ≡ plan_of self }
+    {
+        let Draft {
+            config,
+            threads,
+            ..
+        } = self;
+        Script::of(config, threads)
+    }
+}

@@ -1,0 +1,23 @@
+//! The text of a script and the words of the command line, each read by a grammar that is exact both ways.
+//!
+//! A script is lines: settings, then a thread with its commands. The crate keeps nothing and knows nothing of a pool, a page's bytes or a
+//! device. A line is spelled in one way only (specs/Text), what it makes of the lines before it is one `step` (specs/Grammar), and what
+//! is asked of the whole stands in specs/Faults.
+//!
+//! The layers above use one contract: `read_script` answers what the bytes ask for, or the first line that isn't in the grammar
+//! (specs/Verdict), and what it answers keeps every limit (specs/Within).
+#![tactic(auto)]
+
+mod draft;
+mod lines;
+pub mod program;
+pub mod reader;
+pub mod script;
+mod words;
+
+pub use program::{Name, Program, WordsErr, command_of};
+pub use reader::{ScriptErr, read_script};
+pub use script::{Command, Script};
+
+#[cfg(test)]
+mod tests;

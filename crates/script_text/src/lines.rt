@@ -1,0 +1,166 @@
+//! What a line says.
+ghost use Rattle.std.specs.Prelude.{◌≡◌, ◌==◌, map, IfOk};
+ghost use Rattle.std.specs.List.{slice_split};
+ghost use Rattle.script_text.specs.Text.{is_nothing};
+ghost use Rattle.script_text.specs.Reading.{keyword_of, set_of, thread_of, fix_of, read_of, unfix_of, words_say, line_says};
+
+use crate::script::Command;
+use crate::words::{number, number_u32, page};
+use std::alloc::{AllocError, Global};
+
+/// A number of the pool that a script may set.
+#[derive(Clone, Copy, Debug, PartialEq, Eq)]
+pub enum Setting {
+    Page,
+    Frames,
+    Size,
+    Max,
+}
+
+/// What a line says.
+#[derive(Clone, Copy, Debug)]
+pub enum Item {
+    /// An empty line or a comment says nothing.
+    Nothing,
+    Set { setting: Setting, value: u64 },
+    Thread { number: u64 },
+    Does { command: Command },
+}
+
+/// The first word of a line.
+#[derive(Clone, Copy, Debug)]
+pub enum Keyword {
+    Set(Setting),
+    Thread,
+    Fix,
+    Read,
+    Unfix,
+}
+
+/// The keyword that a word is.
+fn keyword_of(word: &[u8]) -> Option<Keyword>
+    ensures { result ≡ keyword_of word.now }
+{
+    if word == b"page".as_slice() {
+        Some(Keyword::Set(Setting::Page))
+    } else if word == b"frames".as_slice() {
+        Some(Keyword::Set(Setting::Frames))
+    } else if word == b"size".as_slice() {
+        Some(Keyword::Set(Setting::Size))
+    } else if word == b"max".as_slice() {
+        Some(Keyword::Set(Setting::Max))
+    } else if word == b"thread".as_slice() {
+        Some(Keyword::Thread)
+    } else if word == b"fix".as_slice() {
+        Some(Keyword::Fix)
+    } else if word == b"read".as_slice() {
+        Some(Keyword::Read)
+    } else if word == b"unfix".as_slice() {
+        Some(Keyword::Unfix)
+    } else {
+        None
+    }
+}
+
+/// The word behind a setting's name.
+fn set(setting: Setting, args: &[&[u8]]) -> Option<Item>
+    ensures { result ≡ set_of setting (map (λ w. w.now) args.now) }
+{
+    let [value] = args else {
+        return None;
+    };
+    let value = number(u64::MAX, value)?;
+    Some(Item::Set { setting, value })
+}
+
+/// The word behind `thread`.
+fn thread(args: &[&[u8]]) -> Option<Item>
+    ensures { result ≡ thread_of (map (λ w. w.now) args.now) }
+{
+    let [number_word] = args else {
+        return None;
+    };
+    let number = number(u64::MAX, number_word)?;
+    Some(Item::Thread { number })
+}
+
+/// The words behind `fix`; so for each command.
+fn fix(args: &[&[u8]]) -> Option<Item>
+    ensures { result ≡ fix_of (map (λ w. w.now) args.now) }
+{
+    let [p, now] = args else {
+        return None;
+    };
+    let page = page(p)?;
+    let now = number(u64::MAX, now)?;
+    let command = Command::Fix { page, now };
+    Some(Item::Does { command })
+}
+
+fn read(args: &[&[u8]]) -> Option<Item>
+    ensures { result ≡ read_of (map (λ w. w.now) args.now) }
+{
+    let [p, at, len] = args else {
+        return None;
+    };
+    let page = page(p)?;
+    let at = number_u32(at)?;
+    let len = number_u32(len)?;
+    let command = Command::Read { page, at, len };
+    Some(Item::Does { command })
+}
+
+fn unfix(args: &[&[u8]]) -> Option<Item>
+    ensures { result ≡ unfix_of (map (λ w. w.now) args.now) }
+{
+    let [p] = args else {
+        return None;
+    };
+    let page = page(p)?;
+    let command = Command::Unfix { page };
+    Some(Item::Does { command })
+}
+
+/// What words say.
+fn said(words: &[&[u8]]) -> Option<Item>
+    ensures { result ≡ words_say (map (λ w. w.now) words.now) }
+{
+    let [first, args @ ..] = words else {
+        return None;
+    };
+    match keyword_of(first)? {
+        Keyword::Set(setting) => set(setting, args),
+        Keyword::Thread => thread(args),
+        Keyword::Fix => fix(args),
+        Keyword::Read => read(args),
+        Keyword::Unfix => unfix(args),
+    }
+}
+
+/// Whether a line is empty or a comment.
+fn is_nothing(line: &[u8]) -> bool
+    ensures { result ≡ is_nothing line.now }
+{
+    match line {
+        [] => true,
+        [first, ..] => *first == b'#',
+    }
+}
+
+/// The words of a line.
+fn words<'a>(alloc: Global, line: &'a [u8]) -> Result<Vec<&'a [u8]>, AllocError>
+    ensures { IfOk result (λ words. map (λ w. w.now) words.items ≡ slice_split (λ x. x == 32) line.now) }
+{
+    line.split(|b| *b == b' ').collect(alloc)
+}
+
+/// What a line says, or `None` where it is no line of a script.
+pub fn item_of(alloc: Global, line: &[u8]) -> Result<Option<Item>, AllocError>
+    ensures { IfOk result (λ found. found ≡ line_says line.now) }
+{
+    if is_nothing(line) {
+        return Ok(Some(Item::Nothing));
+    }
+    let words = words(alloc, line)?;
+    Ok(said(words.as_slice()))
+}

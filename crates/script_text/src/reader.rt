@@ -1,0 +1,154 @@
+//! Reads a script.
+ghost use Rattle.std.specs.Prelude.{◌≡◌, ◌+◌, ◌≤◌, ◌∷◌, ◌⊎◌, ℕ, [], length, IfOk, MatchResult, Err};
+ghost use Rattle.script_text.specs.Plan.{Plan};
+ghost use Rattle.script_text.specs.Grammar.{Takes, AreRead, lines_of, nothing_said};
+ghost use Rattle.script_text.specs.Faults.{is_fixed, pages_named, is_faulty};
+ghost use Rattle.script_text.specs.Verdict.{IsBadLine, IsScript, IsBad};
+ghost use Rattle.script_text.specs.Within.{IsSettled, IsWithin};
+ghost use Rattle.script_text.specs.Left.{lines_left, left};
+
+use crate::draft::Draft;
+use crate::lines::item_of;
+use crate::script::{Command, Script};
+use crate::words::cut;
+use page_ids::PageId;
+use std::alloc::{AllocError, Global};
+
+/// Why bytes are no script.
+#[derive(Clone, Copy, Debug, PartialEq, Eq)]
+pub enum ScriptErr {
+    /// The first line that isn't in the grammar, from 1; or 0 where the script is too long or its whole has a fault.
+    BadLine { line: u32 },
+    OutOfMemory,
+}
+
+/// Takes a line, and answers whether it may stand there.
+fn take_line(alloc: Global, draft: &mut Draft, line: &[u8]) -> Result<bool, AllocError>
+    ensures { IfOk result (λ good. Takes draft.old line.now good draft.new) }
+{
+    match item_of(alloc, line)? {
+        None => Ok(false),
+        Some(item) => draft.take(item),
+    }
+}
+
+/// The first line, and what follows it.
+fn next_line(text: &[u8]) -> (&[u8], Option<&[u8]>)
+    ensures lines { lines_of text.now ≡ result.0.now ∷ lines_left result.1 }
+    ensures fewer { left result.1 ≤ length text.now }
+{
+    match cut(b'\n', text) {
+        Some((line, others)) => (line, Some(others)),
+        None => (text, None),
+    }
+}
+
+/// Takes all lines.
+fn read_lines(alloc: Global, bytes: &[u8]) -> Result<Draft, ScriptErr>
+    requires short { length bytes.now ≤ 1048576 }
+    ensures read { IfOk result (λ draft. AreRead nothing_said (lines_of bytes.now) draft) }
+    ensures settled { IfOk result (λ draft. IsSettled draft.config) }
+    ensures bad { (n : ℕ) → result ≡ Err (ScriptErr.BadLine n) → IsBadLine (lines_of bytes.now) n }
+{
+    let mut draft = Draft::new(alloc);
+    let mut number: u32 = 0;
+    let mut rest = Some(bytes);
+    while let Some(text) = rest {
+        let (line, others) = next_line(text);
+        number += 1;
+        match take_line(alloc, &mut draft, line) {
+            Ok(true) => (),
+            Ok(false) => return Err(ScriptErr::BadLine { line: number }),
+            Err(_) => return Err(ScriptErr::OutOfMemory),
+        }
+        rest = others;
+    }
+    Ok(draft)
+}
+
+/// Whether a fix among these commands names the page.
+fn is_fixed(page: PageId, commands: &[Command]) -> bool
+    ensures { result ≡ is_fixed page commands.now }
+{
+    for command in commands {
+        if let Command::Fix { page: fixed, .. } = command {
+            if *fixed == page {
+                return true;
+            }
+        }
+    }
+    false
+}
+
+/// 1 where the command is a fix of a page that no later one names, else 0.
+fn adds(command: &Command, later: &[Command]) -> usize
+    ensures names { pages_named (command.now ∷ later.now) ≡ result + pages_named later.now }
+    ensures few { result ≤ 1 }
+{
+    match command {
+        Command::Fix { page, .. } => { if is_fixed(*page, later) { 0 } else { 1 } }
+        Command::Read { .. } => 0,
+        Command::Unfix { .. } => 0,
+    }
+}
+
+/// How many distinct pages the fixes name.
+fn pages_named(commands: &[Command]) -> usize
+    ensures { result ≡ pages_named commands.now }
+{
+    let mut count = 0;
+    for (i, command) in commands.iter().enumerate() {
+        count += adds(command, &commands[i + 1..]);
+    }
+    count
+}
+
+/// Whether the whole has a fault.
+fn is_faulty(script: &Script) -> bool
+    requires settled { IsSettled script.now.config }
+    ensures { result ≡ is_faulty script.now }
+{
+    let config = script.config();
+    let frames = u64::from(config.frames) * u64::from(config.max);
+    let bytes = u64::from(config.page.bytes()) * frames * u64::from(config.instances);
+    let chunks = config.chunks();
+    frames > 16384
+        || bytes > 2147483648
+        || chunks > u64::from(config.max)
+        || chunks > 1
+        || pages_named(script.commands()) > config.frames as usize
+}
+
+/// Reads a script. As bytes have one verdict only, what `read_script` says follows from these clauses.
+fn read_whole(alloc: Global, bytes: &[u8]) -> Result<Script, ScriptErr>
+    ensures read { IfOk result (λ script. IsScript bytes.now script) }
+    ensures bad { (n : ℕ) → result ≡ Err (ScriptErr.BadLine n) → IsBad bytes.now n }
+{
+    if bytes.len() > 1048576 {
+        return Err(ScriptErr::BadLine { line: 0 });
+    }
+    let draft = read_lines(alloc, bytes)?;
+    let script = draft.finish();
+    if is_faulty(&script) {
+        return Err(ScriptErr::BadLine { line: 0 });
+    }
+    Ok(script)
+}
+
+/// What the bytes of a script ask for, or the first line that isn't in the grammar.
+///
+/// A script has at most 1048576 bytes and 64 commands of one thread.
+/// What is asked of the whole is looked at where every line is in the grammar: at most 16384 frames in an instance, 2^31 bytes in all
+/// possible frames, no more chunks at the start than there may be, and for now one chunk alone and no more distinct pages named by
+/// fixes than there are frames.
+pub fn read_script(alloc: Global, bytes: &[u8]) -> Result<Script, ScriptErr>
+    ensures read { IfOk result (λ script. IsScript bytes.now script) }
+    ensures within { IfOk result (λ script. IsWithin script) }
+    ensures only { (plan : Plan) → IsScript bytes.now plan
+        → MatchResult result (λ script. script ≡ plan) (λ e. e ≡ ScriptErr.OutOfMemory) }
+    ensures bad { (n : ℕ) → result ≡ Err (ScriptErr.BadLine n) → IsBad bytes.now n }
+    ensures bad_only { (n : ℕ) → IsBad bytes.now n
+        → (result ≡ Err (ScriptErr.BadLine n)) ⊎ (result ≡ Err ScriptErr.OutOfMemory) }
+{
+    read_whole(alloc, bytes)
+}

@@ -1,0 +1,59 @@
+//! Scripts and their commands.
+ghost use Rattle.std.specs.Prelude.{◌≡◌, map};
+ghost use Rattle.script_text.specs.Plan.{commands_of};
+
+use page_ids::{Config, PageId};
+use std::marker::Model;
+
+/// What a thread's line asks for.
+#[derive(Clone, Copy, Debug, PartialEq, Eq)]
+pub enum Command {
+    /// Fixes the page at this moment, in milliseconds.
+    Fix { page: PageId, now: u64 },
+    /// Reads `len` bytes, 1 to 256, from `at` on, within the page's body.
+    Read { page: PageId, at: u32, len: u32 },
+    /// Gives the newest fix of the page back.
+    Unfix { page: PageId },
+}
+
+/// The numbers of a pool, and what each thread does with it.
+#[derive(Debug, Drop)]
+pub struct Script {
+    config: Config,
+    threads: Vec<Vec<Command>>,
+}
+
+impl Model for Script {
+    ghost use Rattle.std.specs.Prelude.{map};
+    ghost use Rattle.script_text.specs.Plan.{Plan};
+
+    ghost Value = { Plan };
+
+    ghost view = { λ s. record { config = s.config; threads = map (λ t. t.items) s.threads.items } };
+}
+
+impl Script {
+    /// The script of these numbers and threads; takes no memory.
+    pub fn of(config: Config, threads: Vec<Vec<Command>>) -> Script
+        ensures { result ≡ record { config = config; threads = map (λ t. t.items) threads.items } }
+    {
+        Script { config, threads }
+    }
+
+    /// The pool's numbers.
+    pub fn config(&self) -> &Config
+        ensures { result.now ≡ self.now.config }
+    {
+        &self.config
+    }
+
+    /// The commands of thread 1, in order; none where the script has no thread.
+    pub fn commands(&self) -> &[Command]
+        ensures { result.now ≡ commands_of self.now }
+    {
+        match self.threads.first() {
+            None => &[],
+            Some(commands) => commands.as_slice(),
+        }
+    }
+}

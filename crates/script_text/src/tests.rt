@@ -1,0 +1,300 @@
+//! Scripts and command words at their edges, and how long a great script takes.
+use crate::program::{Program, WordsErr, command_of};
+use crate::reader::{ScriptErr, read_script};
+use crate::script::Command;
+use page_ids::{PageId, PageSize};
+use std::alloc::{AllocError, Global};
+use std::test::Fail;
+
+/// The line that is bad; `None` for a script.
+fn bad_line(alloc: Global, text: &[u8]) -> Result<Option<u32>, AllocError> {
+    match read_script(alloc, text) {
+        Ok(_) => Ok(None),
+        Err(ScriptErr::BadLine { line }) => Ok(Some(line)),
+        Err(ScriptErr::OutOfMemory) => Err(AllocError),
+    }
+}
+
+/// Words as the command line hands them over.
+fn strings(alloc: Global, texts: &[&str]) -> Result<Vec<String>, AllocError> {
+    let mut words = Vec::new(alloc);
+    for text in texts {
+        words.push(String::from_str(alloc, text)?)?;
+    }
+    Ok(words)
+}
+
+/// The text, and behind it so many times the line.
+fn repeated(alloc: Global, text: &[u8], line: &[u8], times: u32) -> Result<Vec<u8>, AllocError> {
+    let mut all = Vec::from_slice(alloc, text)?;
+    for _ in 0..times {
+        all.extend_from_slice(line)?;
+    }
+    Ok(all)
+}
+
+#[test]
+fn lines_that_are_in_the_grammar(rt: HostRuntime) -> Result<(), Fail> {
+    let texts: [&[u8]; 24] = [
+        b"",
+        b"\n",
+        b"\n\n",
+        b"#",
+        b"#\xff\xfe\r\t # thread 9\n",
+        b"thread 1",
+        b"thread 1\n",
+        b"# settings\n\nthread 1\n\n# commands\nunfix 0:1\n#",
+        b"max 2\npage 16384\nsize 134217728\nframes 8192\n",
+        b"page 8192\nframes 1\nsize 1\nmax 1\nthread 1",
+        b"frames 1024\nmax 16\nsize 1",
+        b"size 134217728",
+        b"page 4096\nframes 4\nsize 16384\nmax 2\nthread 1\nfix 0:0 5\nread 0:0 38 4\nunfix 0:0\n",
+        b"thread 1\nfix 0:0 0",
+        b"thread 1\nfix 0:0 18446744073709551615",
+        b"thread 1\nfix 4294967295:4294967295 10",
+        b"thread 1\nread 0:0 38 1",
+        b"thread 1\nread 0:0 38 256",
+        b"thread 1\nread 0:0 16375 1",
+        b"thread 1\nread 0:0 16120 256",
+        b"page 8192\nsize 1\nthread 1\nread 0:0 8183 1",
+        b"page 4096\nsize 1\nthread 1\nread 0:0 4087 1",
+        b"frames 2\nsize 1\nthread 1\nfix 0:0 1\nfix 1:0 1\nfix 0:0 2\nunfix 9:9\nread 8:8 38 1",
+        b"thread 1\nunfix 4294967295:4294967295",
+    ];
+    for text in texts {
+        assert_eq!(rt; bad_line(rt.alloc(), text)?, None, "{text:?}");
+    }
+    Ok(())
+}
+
+#[test]
+fn blanks_and_unknown_words(rt: HostRuntime) -> Result<(), Fail> {
+    let rows: [(&[u8], u32); 30] = [
+        (b" ", 1),
+        (b"\t", 1),
+        (b"\r", 1),
+        (b"thread 1\r\nunfix 0:0", 1),
+        (b"thread\t1", 1),
+        (b"thread  1", 1),
+        (b" thread 1", 1),
+        (b"thread 1 ", 1),
+        (b" #", 1),
+        (b"\xc3", 1),
+        (b"thread", 1),
+        (b"thread 1 1", 1),
+        (b"Thread 1", 1),
+        (b"threads 1", 1),
+        (b"thread 1\0", 1),
+        (b"page", 1),
+        (b"page 4096 4096", 1),
+        (b"thread 1\nfix 0:\xff 1", 2),
+        (b"thread 1\nfix 0:0", 2),
+        (b"thread 1\nfix 0 0", 2),
+        (b"thread 1\nfix 0:0:0 0", 2),
+        (b"thread 1\nfix :0 0", 2),
+        (b"thread 1\nfix 0: 0", 2),
+        (b"thread 1\nfix 0 :0 0", 2),
+        (b"thread 1\nunfix 0:0 1", 2),
+        (b"thread 1\nread 0:0 38", 2),
+        (b"thread 1\nfixes 0:0 1", 2),
+        (b"#\n\nwhat\nthread 9", 3),
+        (b"thread 1\nunfix 0:0\n unfix 0:0", 3),
+        (b"\n\n\n.", 4),
+    ];
+    for (text, line) in rows {
+        assert_eq!(rt; bad_line(rt.alloc(), text)?, Some(line), "{text:?}");
+    }
+    Ok(())
+}
+
+#[test]
+fn numbers_past_their_limits(rt: HostRuntime) -> Result<(), Fail> {
+    let rows: [(&[u8], u32); 36] = [
+        (b"thread 01", 1),
+        (b"thread +1", 1),
+        (b"thread -1", 1),
+        (b"thread 0", 1),
+        (b"thread 1x", 1),
+        (b"page 4095", 1),
+        (b"page 04096", 1),
+        (b"page 32768", 1),
+        (b"frames 0", 1),
+        (b"frames 8193", 1),
+        (b"frames 4294967297", 1),
+        (b"size 0", 1),
+        (b"size 2147483649", 1),
+        (b"size 18446744073709551617", 1),
+        (b"max 0", 1),
+        (b"max 17", 1),
+        (b"max 4294967297", 1),
+        (b"thread 1\nfix 00:0 0", 2),
+        (b"thread 1\nfix 0:00 0", 2),
+        (b"thread 1\nfix 0:0 00", 2),
+        (b"thread 1\nfix 0:0 -1", 2),
+        (b"thread 1\nfix 0:0 +1", 2),
+        (b"thread 1\nfix 0:0 18446744073709551616", 2),
+        (b"thread 1\nfix 4294967296:0 0", 2),
+        (b"thread 1\nfix 0:4294967296 0", 2),
+        (b"thread 1\nunfix 0:99999999999999999999999", 2),
+        (b"thread 1\nread 0:0 37 1", 2),
+        (b"thread 1\nread 0:0 038 1", 2),
+        (b"thread 1\nread 0:0 38 0", 2),
+        (b"thread 1\nread 0:0 38 257", 2),
+        (b"thread 1\nread 0:0 16376 1", 2),
+        (b"thread 1\nread 0:0 16121 256", 2),
+        (b"thread 1\nread 0:0 4294967295 256", 2),
+        (b"thread 1\nread 0:0 4294967334 1", 2),
+        (b"page 8192\nsize 1\nthread 1\nread 0:0 8184 1", 4),
+        (b"page 4096\nsize 1\nthread 1\nread 0:0 4088 1", 4),
+    ];
+    for (text, line) in rows {
+        assert_eq!(rt; bad_line(rt.alloc(), text)?, Some(line), "{text:?}");
+    }
+    Ok(())
+}
+
+#[test]
+fn order_and_the_whole(rt: HostRuntime) -> Result<(), Fail> {
+    let rows: [(&[u8], u32); 26] = [
+        (b"max 2\nmax 2", 2),
+        (b"page 4096\nframes 4\npage 4096", 3),
+        (b"thread 1\nmax 2", 2),
+        (b"fix 0:0 1", 1),
+        (b"max 2\nunfix 0:0\nthread 1", 2),
+        (b"thread 2", 1),
+        (b"thread 1\nthread 1", 2),
+        (b"thread 1\nthread 2", 2),
+        (b"max 17\nmax 0", 1),
+        (b"instances 1", 1),
+        (b"old_pct 37", 1),
+        (b"old_time 1000", 1),
+        (b"old_min 512", 1),
+        (b"lsn 8192", 1),
+        (b"first 0", 1),
+        (b"thread 1\ncreate 0:0 1", 2),
+        (b"thread 1\nput 0:0 38 ab", 2),
+        (b"thread 1\nguess 0:0", 2),
+        (b"thread 1\ncheckpoint", 2),
+        (b"max 16", 0),
+        (b"frames 1025\nmax 16\nsize 1", 0),
+        (b"max 16\nthread 2", 2),
+        (b"size 2147483648", 0),
+        (b"page 4096\nframes 2\nsize 16384\nmax 2", 0),
+        (
+            b"frames 2\nsize 1\nthread 1\nfix 0:0 1\nfix 1:0 1\nfix 0:1 1",
+            0,
+        ),
+        (
+            b"frames 2\nsize 1\nthread 1\nfix 0:0 1\nfix 1:0 1\nfix 0:1 1\n.",
+            7,
+        ),
+    ];
+    for (text, line) in rows {
+        assert_eq!(rt; bad_line(rt.alloc(), text)?, Some(line), "{text:?}");
+    }
+    Ok(())
+}
+
+#[test]
+fn long_scripts(rt: HostRuntime) -> Result<(), Fail> {
+    let alloc = rt.alloc();
+    let full = repeated(alloc, b"thread 1\n", b"unfix 0:0\n", 64)?;
+    assert_eq!(rt; bad_line(alloc, full.as_slice())?, None);
+    let more = repeated(alloc, full.as_slice(), b"#\n\nunfix 0:0\n", 1)?;
+    assert_eq!(rt; bad_line(alloc, more.as_slice())?, Some(68));
+    let longest = repeated(alloc, b"", b"# fifteen bytes\n", 65536)?;
+    assert_eq!(rt; longest.len(), 1048576);
+    assert_eq!(rt; bad_line(alloc, longest.as_slice())?, None);
+    let too_long = repeated(alloc, longest.as_slice(), b"\n", 1)?;
+    assert_eq!(rt; bad_line(alloc, too_long.as_slice())?, Some(0));
+    let bad_and_too_long = repeated(alloc, b"bad\n", b"\n", 1048573)?;
+    assert_eq!(rt; bad_line(alloc, bad_and_too_long.as_slice())?, Some(0));
+    let short_lines = repeated(alloc, b"", b"\n", 1048576)?;
+    assert_eq!(rt; bad_line(alloc, short_lines.as_slice())?, None);
+    let words = repeated(alloc, b"", b" ", 1048576)?;
+    assert_eq!(rt; bad_line(alloc, words.as_slice())?, Some(1));
+    Ok(())
+}
+
+#[test]
+fn what_a_script_asks_for(rt: HostRuntime) -> Result<(), Fail> {
+    let text =
+        b"page 4096\nframes 4\nsize 16384\nmax 2\nthread 1\nfix 0:0 5\nread 0:0 38 4\nunfix 0:0\n";
+    let script = read_script(rt.alloc(), text)?;
+    let page = PageId { space: 0, page: 0 };
+    let read = Command::Read {
+        page,
+        at: 38,
+        len: 4,
+    };
+    assert_eq!(rt;
+        script.commands(),
+        [Command::Fix { page, now: 5 }, read, Command::Unfix { page }].as_slice()
+    );
+    let config = *script.config();
+    assert_eq!(rt; config.page, PageSize::Kib4);
+    assert_eq!(rt; (config.frames, config.size, config.max), (4, 16384, 2));
+    assert_eq!(rt; (config.instances, config.lsn, config.first), (1, 8192, 0));
+    assert_eq!(rt;
+        (config.old_pct, config.old_time, config.old_min),
+        (37, 1000, 512)
+    );
+    let empty = read_script(rt.alloc(), b"")?;
+    assert!(rt; empty.commands().is_empty());
+    let config = *empty.config();
+    assert_eq!(rt; config.page, PageSize::Kib16);
+    assert_eq!(rt;
+        (config.frames, config.size, config.max),
+        (8192, 134217728, 2)
+    );
+    Ok(())
+}
+
+#[test]
+fn command_words(rt: HostRuntime) -> Result<(), Fail> {
+    let alloc = rt.alloc();
+    let calls: [(&[&str], u32); 3] = [
+        (&["run", "0", "a", "b-"], 0),
+        (&["run", "4294967295", "a", "b-"], 4294967295),
+        (&["run", "10", "a", "b-"], 10),
+    ];
+    for (texts, number) in calls {
+        let words = strings(alloc, texts)?;
+        match command_of(alloc, words.as_slice())? {
+            Program::Run { space, file, log } => {
+                assert_eq!(rt; (space, file.as_str(), log.as_str()), (number, "a", "b-"));
+            }
+        }
+    }
+    let others: [&[&str]; 20] = [
+        &[],
+        &[""],
+        &["run"],
+        &["run", "0", "a"],
+        &["run", "0", "a", "b", "c"],
+        &["run", "0", "a", "b", ""],
+        &["Run", "0", "a", "b"],
+        &["runs", "0", "a", "b"],
+        &["", "0", "a", "b"],
+        &["run", "", "a", "b"],
+        &["run", "00", "a", "b"],
+        &["run", "+1", "a", "b"],
+        &["run", "-1", "a", "b"],
+        &["run", "1 ", "a", "b"],
+        &["run", "4294967296", "a", "b"],
+        &["run", "0", "", "b"],
+        &["run", "0", "a", ""],
+        &["run", "0", "-a", "b"],
+        &["run", "0", "a", "-"],
+        &["check"],
+    ];
+    for texts in others {
+        let words = strings(alloc, texts)?;
+        let refused = match command_of(alloc, words.as_slice()) {
+            Err(WordsErr::Usage) => true,
+            _ => false,
+        };
+        assert!(rt; refused, "{texts:?}");
+    }
+    Ok(())
+}

@@ -1,0 +1,15 @@
+pub mod Lines
+pub mod Told
+pub mod Backward
+pub mod Merged
+pub mod Taking
+pub mod Numbers
+pub mod Visible
+pub mod Cuts
+pub mod Words
+pub mod CallWords
+pub mod CauseWords
+pub mod KindWords
+pub mod NoteWords
+pub mod TrailWords
+pub mod rows

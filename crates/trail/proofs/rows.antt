@@ -1,0 +1,13 @@
+pub mod Shared
+pub mod Lawful
+pub mod Refusals
+pub mod Order
+pub mod Fixes
+pub mod Causes
+pub mod Due
+pub mod Promised
+pub mod Lookups
+pub mod Shrunk
+pub mod Books
+pub mod Moved
+pub mod Callers

@@ -1,0 +1,118 @@
+-- What the calls promise of refusals: which of them are receipts, and with what a sound page's fix is refused.
+use Rattle.std.proofs.Common.{◌≡◌, ℕ, true, false, List, [], ◌<◌, Option, Some, IsSome, IsTrue, IfSome, refl, subst}
+use Rattle.page_ids.specs.Content.{Content}
+use Rattle.page_ids.specs.declared.ids.PageId.{PageId}
+use Rattle.page_ids.specs.declared.layout.BadPage.{BadPage}
+use Rattle.page_ids.specs.declared.layout.BadPage.TheVariants as bad
+use Rattle.trail.specs.declared.event.Kind.TheVariants as kind
+use Rattle.trail.specs.declared.event.Note.TheVariants as note
+use Rattle.trail.specs.declared.event.Call.TheVariants as call
+use Rattle.trail.specs.declared.event.Cause.{Cause}
+use Rattle.trail.specs.declared.event.Cause.TheVariants as cause
+use Rattle.trail.specs.declared.event.Event.{Event}
+use Rattle.page_ids.specs.Size.{page_bytes}
+use Rattle.trail.specs.Places.{entries}
+use Rattle.trail.specs.History.{value}
+use Rattle.trail.specs.Opening.{Opening}
+use Rattle.trail.specs.Promises.{IsPromised, ArePromised, is_excuse}
+use Rattle.trail.proofs.rows.Shared.{page, pages_of, pages_but, opening, untold, entry, receipt, frame_there}
+use Rattle.trail.proofs.rows.Lawful.{closed, fixed}
+use Rattle.trail.proofs.rows.Refusals.{not_unfixed, unsound, fixed_next}
+use Rattle.trail.proofs.rows.Causes.{one_due}
+use Rattle.trail.proofs.rows.Due.{fix_inside}
+
+-- no answer is yes and no
+pub apart : true ≡ false → ⊥
+apart same = absurd (cc)
+
+-- no and yes
+pub apart_too : false ≡ true → ⊥
+apart_too same = absurd (cc)
+
+-- a page with a value is refused as bad
+pub sound_bad : (c : Content) → IsPromised (opening (pages_of c)) [] (entry 1 1 1 (kind.Refused (call.Fix (page 0) 1) (cause.BadPage (bad.Number 8)))) → ⊥
+sound_bad c h = apart_too ((h.excused refl).1 refl)
+
+-- also by a receipt
+pub sound_bad_noted : (c : Content) → IsPromised (opening (pages_of c)) [] (receipt 0 1 1 (note.Refused (call.Fix (page 0) 1) (cause.BadPage (bad.Number 8)))) → ⊥
+sound_bad_noted c h = apart_too h.filed
+
+-- a page with a value, whatever its fix found wrong with the bytes
+pub sound_bad_any : (c : Content) (found : BadPage) → IsPromised (opening (pages_of c)) [] (entry 1 1 1 (kind.Refused (call.Fix (page 0) 1) (cause.BadPage found))) → ⊥
+sound_bad_any c found h = apart_too ((h.excused refl).1 refl)
+
+-- a page with a value is refused as one too many
+pub sound_full : (c : Content) → IsPromised (opening (pages_of c)) [] (entry 1 1 1 (kind.Refused (call.Fix (page 0) 1) (cause.HoldFull 64))) → ⊥
+sound_full c h = apart_too ((h.excused refl).1 refl)
+
+-- it may be refused with a fault of the disk
+pub sound_fault : (c : Content) → IsPromised (opening (pages_of c)) [] (entry 1 1 1 (kind.Refused (call.Fix (page 0) 1) (cause.DiskFault 0 1)))
+sound_fault c = record { own = refl; filed = refl; excused = λ none. (refl, (λ value. refl)) }
+
+-- a page without a value may be refused as bad
+pub unsound_bad : (c : Content) → IsPromised (opening (pages_but c)) [] (entry 1 1 1 (kind.Refused (call.Fix (page 7) 1) (cause.BadPage (bad.Number 8))))
+unsound_bad c = record { own = refl; filed = refl; excused = λ none. (refl, (λ value. absurd (apart_too value))) }
+
+-- and any page where no values are told
+pub untold_bad : IsPromised untold [] (entry 1 1 1 (kind.Refused (call.Fix (page 0) 1) (cause.BadPage (bad.Number 8))))
+untold_bad = record { own = refl; filed = refl; excused = λ none. (refl, tt) }
+
+-- a page outside its space is refused as such, whatever the disk gave for it
+pub outside_refused : (c : Content) → IsPromised (opening (λ p. Some c)) [] (entry 1 1 1 (kind.Refused (call.Fix (page 64) 1) (cause.NoSuchPage 64)))
+outside_refused c = record { own = refl; filed = refl; excused = λ none. absurd (one_due (cause.NoSuchPage 64) none) }
+
+-- a fault of the disk is told by a receipt
+pub fault_noted : (c : Content) → IsPromised (opening (pages_of c)) [] (receipt 0 1 1 (note.Refused (call.Fix (page 0) 1) (cause.DiskFault 0 1))) → ⊥
+fault_noted c h = apart_too h.filed
+
+-- also one of a clean
+pub fault_of_clean_noted : (c : Content) → IsPromised (opening (pages_of c)) [] (receipt 0 0 1 (note.Refused (call.Clean 16384) (cause.DiskFault 0 1))) → ⊥
+fault_of_clean_noted c h = apart_too h.filed
+
+-- a page outside its space is refused by a receipt
+pub outside_noted : (c : Content) → IsPromised (opening (pages_of c)) [] (receipt 0 1 1 (note.Refused (call.Fix (page 64) 1) (cause.NoSuchPage 64))) → ⊥
+outside_noted c h = apart_too h.filed
+
+-- a read of an unheld page is refused by an entry
+pub unheld_entered : (c : Content) → IsPromised (opening (pages_of c)) [] (entry 1 1 1 (kind.Refused (call.Read (page 0) 38 4) cause.Unheld)) → ⊥
+unheld_entered c h = apart h.filed
+
+-- an unfix is
+pub unheld_unfix_entered : (c : Content) → IsPromised (opening (pages_of c)) [] (entry 1 1 1 (kind.Refused (call.Unfix (page 0)) cause.Unheld)) → ⊥
+unheld_unfix_entered c h = apart h.filed
+
+-- A fix of a page that lies in its space and has a value is refused only where every frame was seen with a fix, or a device failed.
+pub sound_refused : (o : Opening) (past : List Event) (place c n : ℕ) (p : PageId) (now : ℕ) (why : Cause) (base : PageId → Option Content) → p.page < o.pages p.space → o.base ≡ Some base
+    → IsSome (value (page_bytes o.config.page) base (entries past) p) → IsPromised o past (entry place c n (kind.Refused (call.Fix p now) why)) → IsTrue (is_excuse why)
+sound_refused o past place c n p now why base inside told sound promised = by_base o.base told ((promised.excused (fix_inside o past c p now inside)).1)
+  where
+    by_base : (b : Option (PageId → Option Content)) → b ≡ Some base → IfSome b (λ base. IsSome (value (page_bytes o.config.page) base (entries past) p) → IsTrue (is_excuse why)) → IsTrue (is_excuse why)
+    by_base b same excused = let there : IfSome (Some base) (λ base. IsSome (value (page_bytes o.config.page) base (entries past) p) → IsTrue (is_excuse why)) =
+        subst (λ b. IfSome b (λ base. IsSome (value (page_bytes o.config.page) base (entries past) p) → IsTrue (is_excuse why))) same excused in there sound
+
+-- the trail of a read has no refusal
+pub read_promised : (c : Content) → ArePromised (opening (pages_of c)) closed
+read_promised c = (tt, (tt, (tt, (tt, (tt, tt)))))
+
+-- refused fixes of pages outside their spaces, a read and an unfix of an unheld page
+pub outside_promised : (c : Content) → ArePromised (opening (pages_of c)) not_unfixed
+outside_promised c = (record { own = refl; filed = refl; excused = tt }, (record { own = refl; filed = refl; excused = tt }, (record { own = refl; filed = refl; excused = λ none. absurd (one_due (cause.NoSuchPage 0) none) }, (record { own = refl; filed = refl; excused = λ none. absurd (one_due (cause.NoSuchPage 64) none) }, tt))))
+
+-- the fix of a page whose bytes have another number
+pub unsound_promised : (c : Content) → ArePromised (opening (pages_but c)) unsound
+unsound_promised c = (unsound_bad c, tt)
+
+-- a failed read, and the fix behind it
+pub failed_promised : (c : Content) → ArePromised (opening (pages_of c)) fixed_next
+failed_promised c = (tt, (tt, (sound_fault c, tt)))
+
+-- a read of a held page, or an unfix, is refused with a fault of the disk
+pub fault_of_read : (c : Content) → IsPromised (opening (pages_of c)) fixed (entry 3 1 2 (kind.Refused (call.Read (page 0) 38 4) (cause.DiskFault 0 1))) → ⊥
+fault_of_read c h = apart_too h.own
+
+pub fault_of_unfix : (c : Content) → IsPromised (opening (pages_of c)) fixed (entry 3 1 2 (kind.Refused (call.Unfix (page 0)) (cause.DiskFault 0 1))) → ⊥
+fault_of_unfix c h = apart_too h.own
+
+-- a fix of a resident page is refused with a fault of the disk
+pub fault_of_resident : (c : Content) → IsPromised (opening (pages_of c)) fixed (entry 3 1 2 (kind.Refused (call.Fix (page 0) 1) (cause.DiskFault 0 1))) → ⊥
+fault_of_resident c h = frame_there 0 (h.excused refl).0

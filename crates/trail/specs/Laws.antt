@@ -1,0 +1,43 @@
+-- What a trail must obey, law by law. Each event is judged by what stands before it; the newest event stands first.
+use Rattle.std.specs.Prelude.{ℕ, List, [], ◌∷◌, ◌≡◌, None, reverse, ⊤}
+use Rattle.page_ids.specs.declared.ids.PageId.{PageId}
+use Rattle.trail.specs.declared.event.Kind.{Kind}
+use Rattle.trail.specs.declared.event.Kind.TheVariants as kind
+use Rattle.trail.specs.declared.event.Event.{Event}
+use Rattle.trail.specs.declared.event.Event.TheVariants as event
+use Rattle.trail.specs.Calls.{under_way, held_by, newest_of}
+use Rattle.trail.specs.Events.{Events}
+use Rattle.trail.specs.Opening.{Opening}
+use Rattle.trail.specs.Legal.{IsLegal}
+use Rattle.trail.specs.Causes.{IsCaused}
+
+-- no caller has an open fix of the page
+abbrev pub IsUnfixed : List Event → PageId → Type 0
+IsUnfixed past p = (c : ℕ) → newest_of (held_by past c) p ≡ None
+
+-- a page that any caller has fixed neither leaves nor moves
+abbrev pub IsStillKind : List Event → Kind → Type 0
+IsStillKind past (kind.Evict p f passed) = IsUnfixed past p
+IsStillKind past (kind.Move p from to) = IsUnfixed past p
+IsStillKind past _ = ⊤
+
+abbrev pub IsStill : List Event → Event → Type 0
+IsStill past (event.Entry e) = IsStillKind past e.kind
+IsStill past (event.Receipt r) = ⊤
+
+-- the laws, in their order
+pub record IsLawful (o : Opening) (past : List Event) (e : Event) : Type 0 where
+  pub legal : IsLegal o past e
+  pub still : IsStill past e
+  pub causes : IsCaused o past e
+
+-- each event was lawful where it came, the newest first
+abbrev pub IsGood : Opening → List Event → Type 0
+IsGood o [] = ⊤
+IsGood o (e ∷ past) = IsLawful o past e × IsGood o past
+
+-- a whole trail: each event is lawful, and each call has its answer
+pub record IsLawfulTrail (o : Opening) (trail : Events) : Type 0 where
+  pub first : trail.first ≡ o.first
+  pub each : IsGood o (reverse trail.events)
+  pub answered : (c : ℕ) → under_way (reverse trail.events) c ≡ []

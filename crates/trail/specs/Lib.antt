@@ -1,0 +1,14 @@
+pub mod Events
+pub mod Places
+pub mod Book
+pub mod History
+pub mod Calls
+pub mod Opening
+pub mod Legal
+pub mod Causes
+pub mod Laws
+pub mod Promises
+pub mod Merging
+pub mod Backward
+pub mod Spelling
+pub mod Typed

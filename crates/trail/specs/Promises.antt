@@ -1,0 +1,66 @@
+-- What the calls promise of refusals beside the laws.
+use Rattle.std.specs.Prelude.{ℕ, Bool, true, false, List, [], ◌∷◌, ◌≡◌, None, IsSome, IsTrue, ⊤}
+use Rattle.trail.specs.declared.event.Call.{Call}
+use Rattle.trail.specs.declared.event.Call.TheVariants as call
+use Rattle.trail.specs.declared.event.Cause.{Cause}
+use Rattle.trail.specs.declared.event.Cause.TheVariants as cause
+use Rattle.trail.specs.declared.event.Kind.{Kind}
+use Rattle.trail.specs.declared.event.Kind.TheVariants as kind
+use Rattle.trail.specs.declared.event.Note.{Note}
+use Rattle.trail.specs.declared.event.Note.TheVariants as note
+use Rattle.trail.specs.declared.event.Event.{Event}
+use Rattle.trail.specs.declared.event.Event.TheVariants as event
+use Rattle.trail.specs.Places.{entries}
+use Rattle.trail.specs.History.{home}
+use Rattle.trail.specs.Opening.{Opening, OnValue}
+use Rattle.trail.specs.Causes.{due}
+
+-- every frame was seen with a fix, or a device failed
+abbrev pub is_excuse : Cause → Bool
+is_excuse (cause.AllFixed seen) = true
+is_excuse (cause.RedoFault before after) = true
+is_excuse (cause.DiskFault before after) = true
+is_excuse _ = false
+
+-- the causes that a call may have, as far as calls are made
+abbrev pub is_own : Call → Cause → Bool
+is_own (call.Fix p now) (cause.NoSuchPage pages) = true
+is_own (call.Fix p now) (cause.DiskFault before after) = true
+is_own (call.Fix p now) (cause.BadPage bad) = true
+is_own (call.Read p at len) cause.Unheld = true
+is_own (call.Unfix p) cause.Unheld = true
+is_own (call.Clean bound) (cause.DiskFault before after) = true
+is_own _ _ = false
+
+-- A fix of which no exact cause holds is refused only where its page has no home, and with such a cause only where the page has a value.
+abbrev pub IsExcused : Opening → List Event → ℕ → Call → Cause → Type 0
+IsExcused o past c (call.Fix p now) why = due o past c (call.Fix p now) ≡ None → (home (entries past) p ≡ None) × OnValue o past p (λ v. IsSome v → IsTrue (is_excuse why))
+IsExcused o past c _ why = ⊤
+
+-- whether the refusal is a receipt of its pass; every other one is an entry of the history
+abbrev pub is_noted : Cause → Bool
+is_noted cause.Unheld = true
+is_noted _ = false
+
+-- a refusal as the calls promise it
+pub record IsFairRefusal (noted : Bool) (o : Opening) (past : List Event) (c : ℕ) (asked : Call) (why : Cause) : Type 0 where
+  pub own : IsTrue (is_own asked why)
+  pub filed : is_noted why ≡ noted
+  pub excused : IsExcused o past c asked why
+
+abbrev pub IsPromisedKind : Opening → List Event → ℕ → Kind → Type 0
+IsPromisedKind o past c (kind.Refused asked why) = IsFairRefusal false o past c asked why
+IsPromisedKind o past c _ = ⊤
+
+abbrev pub IsPromisedNote : Opening → List Event → ℕ → Note → Type 0
+IsPromisedNote o past c (note.Refused asked why) = IsFairRefusal true o past c asked why
+IsPromisedNote o past c _ = ⊤
+
+abbrev pub IsPromised : Opening → List Event → Event → Type 0
+IsPromised o past (event.Entry e) = IsPromisedKind o past e.caller e.kind
+IsPromised o past (event.Receipt r) = IsPromisedNote o past r.caller r.note
+
+-- and so at each event of a trail, the newest first
+abbrev pub ArePromised : Opening → List Event → Type 0
+ArePromised o [] = ⊤
+ArePromised o (e ∷ past) = IsPromised o past e × ArePromised o past

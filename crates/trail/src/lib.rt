@@ -1,0 +1,16 @@
+//! What happened in an instance: the entries of its history, the receipts of its passes, the trail of both, and the trail's text.
+//!
+//! Holds the definitions that every layer above speaks of: what a history says of a page or a frame, what a trail says of a caller,
+//! and which trails are lawful. Knows nothing of frames' memory, devices or threads. The layers above use one contract:
+//! the text of a trail is the function of its events, and a merged trail is the history with each receipt behind the entry of its place.
+#![tactic(auto)]
+
+pub mod event;
+pub mod merging;
+pub mod spelling;
+#[cfg(test)]
+mod tests;
+
+pub use event::{Call, Cause, Entry, Event, Held, Kind, Note, Receipt, Trail};
+pub use merging::{merge, one_account_merges};
+pub use spelling::{text, text_tells_the_trail};
