@@ -1,8 +1,9 @@
 #!/usr/bin/env bash
-# Runs the proved program, or the one that the first word names, on real files and compares status, standard output and standard error byte by byte.
+# Runs the proved program, or the one that the first word names, on real files and compares status, standard output, standard error and the
+# files byte by byte.
 #
 # What is expected is worked out by hand from the rules; nothing of it was printed by the program.
-# In each case the tablespace has to stay as it was, and no file may be made.
+# In each case the files have to be as they were before, but for the bytes that the case itself puts into the folder want.
 set -u
 
 top=$(dirname "$(dirname "$(readlink -f "${BASH_SOURCE[0]}")")")
@@ -36,6 +37,26 @@ put() {
     printf "$3" | dd of="$1" bs=1 seek="$2" conv=notrunc status=none
 }
 
+# hex FILE AT BYTES: writes bytes, given in hexadecimal with or without blanks, into a file.
+hex() {
+    local digits=${3// /} escapes=
+    while [ -n "$digits" ]; do
+        escapes+="\\x${digits:0:2}"
+        digits=${digits:2}
+    done
+    put "$1" "$2" "$escapes"
+}
+
+# stamp FILE SIZE SPACE PAGE LSN: what a page has in its header and trailer once it is written. The space has 8 digits, the LSN 16, both hexadecimal.
+stamp() {
+    local at=$(($4 * $2)) number
+    printf -v number %08x "$4"
+    hex "$1" "$at" "deadbeef $number"
+    hex "$1" $((at + 16)) "$5"
+    hex "$1" $((at + 34)) "$3"
+    hex "$1" $((at + $2 - 8)) "deadbeef ${5:8}"
+}
+
 # blank_space: the tablespace of the next case is 64 pages of zeros, and there is no log.
 blank_space() {
     rm -rf case
@@ -43,10 +64,16 @@ blank_space() {
     zeros $((64 * 4096)) >case/space
 }
 
-# begin: remembers what lies in the folder of the case.
+# blank_files: the same, with an empty log.
+blank_files() {
+    blank_space
+    : >case/log
+}
+
+# begin: what lies in the folder of the case is to lie there at the end.
 begin() {
-    rm -rf before
-    cp -a case before
+    rm -rf want
+    cp -a case want
 }
 
 # expect NAME STATUS OUT ERR: judges the run whose status is in $status, and whose output and error stand in out and err.
@@ -57,7 +84,7 @@ expect() {
     [ "$status" = "$2" ] || faults+=" status $status, not $2;"
     cmp -s out want_out || faults+=" standard output differs;"
     cmp -s err want_err || faults+=" standard error differs;"
-    diff -r before case >/dev/null 2>&1 || faults+=" the files changed;"
+    diff -r want case >/dev/null 2>&1 || faults+=" the files differ;"
     if [ -z "$faults" ]; then
         passed=$((passed + 1))
         return
@@ -103,14 +130,14 @@ usage() {
     expect "$name" 2 '' $'innopool: usage\n'
 }
 
-# device_fault NAME FILE: no tablespace can be opened there.
+# device_fault NAME FILE LOG: the tablespace or the log can't be opened there.
 device_fault() {
-    run_words "$thread" run 0 "$2" log
+    run_words "$thread" run 0 "$2" "$3"
     expect "$1" 6 '' $'innopool: device fault\n'
 }
 
 trails() {
-    blank_space
+    blank_files
     trail_is 'a page of zeros is read' "$thread"$'fix 0:0 5\nread 0:0 38 4\nunfix 0:0\n' 0 \
 $'trail 0 3 2
 E 1 1.1 load 0:0 0
@@ -163,7 +190,7 @@ E 3 0.1 clean 0 -
 # Page 7 and 2 of the tablespace: number at 4, LSN at 16, space at 34, body from 38 on, low half of the LSN in the last four bytes.
 pages() {
     local at=$((7 * 4096))
-    blank_space
+    blank_files
     put case/space $((2 * 4096)) '\1\2\3\4\0\0\0\2'
     put case/space $((2 * 4096 + 16)) '\0\0\0\1\0\0\x20\x16'
     put case/space $((2 * 4096 + 24)) '\x45\xbf'
@@ -208,6 +235,186 @@ E 2 0.1 clean 0 -
 "
 }
 
+# A put of one byte takes 22 bytes of the log.
+changes() {
+    local script=$thread$'fix 0:0 1\nput 0:0 4087 ab\nread 0:0 4087 1\nunfix 0:0\n'
+    blank_space
+    run "$script"
+    hex want/log 0 '01 00000000 00000000 0ff7 0001 ab 0000000000002016'
+    hex want/space 0 deadbeef
+    hex want/space 16 0000000000002016
+    hex want/space 4087 'ab deadbeef 00002016'
+    expect 'a page is changed' 0 \
+$'trail 0 5 2
+E 1 1.1 load 0:0 0
+E 2 1.1 fix 0:0 0 1 1
+E 3 1.2 put 0:0 4087 ab 8192 8214
+R 3 1.3 copied 0:0 4087 ab 3
+R 3 1.4 unfixed 0:0 0 1
+E 4 0.1 write 0:0 8214 8214
+E 5 0.1 clean 1 -
+' ''
+    run "$script"
+    hex want/log 22 '01 00000000 00000000 0ff7 0001 ab 000000000000202c'
+    hex want/space 16 000000000000202c
+    hex want/space 4092 0000202c
+    expect 'the same again, behind the first run' 0 \
+$'trail 0 5 2
+E 1 1.1 load 0:0 0
+E 2 1.1 fix 0:0 0 1 1
+E 3 1.2 put 0:0 4087 ab 8214 8236
+R 3 1.3 copied 0:0 4087 ab 3
+R 3 1.4 unfixed 0:0 0 1
+E 4 0.1 write 0:0 8236 8236
+E 5 0.1 clean 1 -
+' ''
+    trail_is 'what was changed is read by the next run' "$thread"$'fix 0:0 1\nread 0:0 4086 2\n' 0 \
+$'trail 0 3 2
+E 1 1.1 load 0:0 0
+E 2 1.1 fix 0:0 0 1 1
+R 2 1.2 copied 0:0 4086 00ab 1
+R 2 1.3 unfixed 0:0 0 1
+E 3 0.1 clean 0 -
+'
+    blank_files
+    trail_is 'a change of a page that is not fixed' "$thread"$'put 0:1 38 01\nfix 0:0 1\nunfix 0:0\nput 0:0 38 01\n' 1 \
+$'trail 0 3 3
+R 0 1.1 refused put 0:1 38 01 Unheld
+E 1 1.2 load 0:0 0
+E 2 1.2 fix 0:0 0 1 1
+R 2 1.3 unfixed 0:0 0 2
+R 2 1.4 refused put 0:0 38 01 Unheld
+E 3 0.1 clean 0 -
+'
+    body 4096 4087 0ff7
+    body 8192 8183 1ff7
+    body 16384 16375 3ff7
+}
+
+# body SIZE LAST HEX: the body of a page of this size begins at 38 and ends behind LAST, which is HEX in hexadecimal.
+body() {
+    local head="page $1"$'\nframes 4\n'"size $((4 * $1))"$'\nmax 2\nthread 1\nfix 0:1 1\n'
+    blank_space
+    bad_line "a change before the body of a page of $1" 7 "$head"$'put 0:1 37 01\n'
+    bad_line "a change behind the body of a page of $1" 7 "$head""put 0:1 $(($2 + 1)) 01"$'\n'
+    run "$head"$'put 0:1 38 01\n'"put 0:1 $2 02"$'\n'
+    hex want/log 0 '01 00000000 00000001 0026 0001 01 0000000000002016'
+    hex want/log 22 "01 00000000 00000001 $3 0001 02 000000000000202c"
+    stamp want/space "$1" 00000000 1 000000000000202c
+    hex want/space $(($1 + 38)) 01
+    hex want/space $(($1 + $2)) 02
+    expect "the whole body of a page of $1" 0 \
+"trail 0 6 1
+E 1 1.1 load 0:1 0
+E 2 1.1 fix 0:1 0 1 1
+E 3 1.2 put 0:1 38 01 8192 8214
+E 4 1.3 put 0:1 $2 02 8214 8236
+R 4 1.4 unfixed 0:1 0 1
+E 5 0.1 write 0:1 8236 8236
+E 6 0.1 clean 1 -
+" ''
+}
+
+# Pages are written in the order of their first changes. The first write has made all of the log durable, so each shows the log's end.
+flushes() {
+    local at=$((2 * 4096))
+    blank_files
+    put case/space "$at" '\1\2\3\4\0\0\0\2\5\6\7\x8\x9\xa\xb\xc\0\0\0\0\0\0\x20\1\x45\xbf\1\2\3\4\5\6\7\x8'
+    put case/space $((at + 38)) '\xab\xcd\xef'
+    put case/space $((at + 4088)) '\5\6\7\x8\0\0\x20\1'
+    run "$thread"$'fix 0:1 1\nfix 0:2 1\nput 0:2 39 11\nput 0:1 38 22\nput 0:2 41 33\n'
+    hex want/log 0 '01 00000000 00000002 0027 0001 11 0000000000002016'
+    hex want/log 22 '01 00000000 00000001 0026 0001 22 000000000000202c'
+    hex want/log 44 '01 00000000 00000002 0029 0001 33 0000000000002042'
+    stamp want/space 4096 00000000 1 000000000000202c
+    stamp want/space 4096 00000000 2 0000000000002042
+    hex want/space $((4096 + 38)) 22
+    hex want/space $((at + 38)) 'ab 11 ef 33'
+    expect 'two pages are written, the oldest first; what is not changed stays' 0 \
+$'trail 0 10 2
+E 1 1.1 load 0:1 0
+E 2 1.1 fix 0:1 0 1 1
+E 3 1.2 load 0:2 1
+E 4 1.2 fix 0:2 1 3 1
+E 5 1.3 put 0:2 39 11 8192 8214
+E 6 1.4 put 0:1 38 22 8214 8236
+E 7 1.5 put 0:2 41 33 8236 8258
+R 7 1.6 unfixed 0:2 1 2
+R 7 1.7 unfixed 0:1 0 1
+E 8 0.1 write 0:2 8258 8258
+E 9 0.1 write 0:1 8236 8258
+E 10 0.1 clean 2 -
+' ''
+    blank_files
+    run_words "$thread"$'fix 4294967295:63 1\nput 4294967295:63 4085 010203\n' run 4294967295 space log
+    hex want/log 0 '01 ffffffff 0000003f 0ff5 0003 010203 0000000000002018'
+    stamp want/space 4096 ffffffff 63 0000000000002018
+    hex want/space $((63 * 4096 + 4085)) 010203
+    expect 'the last page of the greatest space' 0 \
+$'trail 0 5 1
+E 1 1.1 load 4294967295:63 0
+E 2 1.1 fix 4294967295:63 0 1 1
+E 3 1.2 put 4294967295:63 4085 010203 8192 8216
+R 3 1.3 unfixed 4294967295:63 0 1
+E 4 0.1 write 4294967295:63 8216 8216
+E 5 0.1 clean 1 -
+' ''
+}
+
+# one_put LSN: a page is changed once, in a log that begins with this LSN.
+one_put() {
+    printf '%slsn %s\nthread 1\nfix 0:0 1\nput 0:0 38 01\n' "$four_frames" "$1"
+}
+
+# spent NAME LSN END: a change in a log that begins with LSN and ends with END is refused.
+spent() {
+    trail_is "$1" "$(one_put "$2")" 1 \
+"trail 0 4 1
+E 1 1.1 load 0:0 0
+E 2 1.1 fix 0:0 0 1 1
+E 3 1.2 refused put 0:0 38 01 LogSpent $3
+R 3 1.3 unfixed 0:0 0 1
+E 4 0.1 clean 0 -
+"
+}
+
+# put_from NAME LSN START END HEX: the change's record begins at START, and ends at END, which is HEX in 16 digits.
+put_from() {
+    run "$(one_put "$2")"
+    hex want/log $(($3 - $2)) "01 00000000 00000000 0026 0001 01 $5"
+    stamp want/space 4096 00000000 0 "$5"
+    hex want/space 38 01
+    expect "$1" 0 \
+"trail 0 5 1
+E 1 1.1 load 0:0 0
+E 2 1.1 fix 0:0 0 1 1
+E 3 1.2 put 0:0 38 01 $3 $4
+R 3 1.3 unfixed 0:0 0 1
+E 4 0.1 write 0:0 $4 $4
+E 5 0.1 clean 1 -
+" ''
+}
+
+logs() {
+    blank_files
+    spent 'a log without LSNs' 9223372036854775807 9223372036854775807
+    spent 'a log with an LSN too few' 9223372036854775787 9223372036854775787
+    printf k >case/log
+    spent 'a log that has taken the last LSN' 9223372036854775807 9223372036854775808
+    printf ke >case/log
+    bad_line 'a log that is too long for its LSN' 0 "$(one_put 9223372036854775807)"
+    blank_files
+    put_from 'the last LSN is taken' 9223372036854775786 9223372036854775786 9223372036854775808 8000000000000000
+    blank_files
+    put_from 'a log from LSN 1 on' 1 1 23 0000000000000017
+    blank_files
+    printf 'kept' >case/log
+    put_from 'a log is written behind what it holds' 8192 8196 8218 000000000000201a
+    blank_space
+    run_words "$(one_put 8192)" run 0 space /dev/full
+    expect 'a log that takes nothing: no page is written' 6 '' $'innopool: device fault\n'
+}
+
 bad_lines() {
     blank_space
     bad_line 'a command before the thread' 5 "$four_frames"$'fix 0:0 5\n'
@@ -223,6 +430,16 @@ bad_lines() {
     bad_line 'a read of nothing' 6 "$thread"$'read 0:0 38 0\n'
     bad_line 'a read of 257 bytes' 6 "$thread"$'read 0:0 38 257\n'
     bad_line 'a change in the trailer' 7 "$thread"$'fix 0:0 1\nput 0:0 4088 ab\n'
+    bad_line 'a change that ends in the trailer' 7 "$thread"$'fix 0:0 1\nput 0:0 4087 abcd\n'
+    bad_line 'a change of no bytes' 6 "$thread"$'put 0:0 38\n'
+    bad_line 'a change of 257 bytes' 6 "$thread""put 0:0 38 $(printf '%0514d' 0)"$'\n'
+    bad_line 'an odd number of digits' 6 "$thread"$'put 0:0 38 abc\n'
+    bad_line 'a capital digit' 6 "$thread"$'put 0:0 38 aB\n'
+    bad_line 'no LSN' 1 $'lsn 0\n'
+    bad_line 'an LSN past its range' 1 $'lsn 9223372036854775808\n'
+    bad_line 'an LSN past 64 bits' 1 $'lsn 18446744073709551617\n'
+    bad_line 'an LSN twice' 2 $'lsn 1\nlsn 1\n'
+    bad_line 'an LSN behind the thread' 6 "$thread"$'lsn 1\n'
     bad_line 'an unknown command' 6 "$thread"$'fetch 0:0\n'
     bad_line 'a leading zero' 6 "$thread"$'fix 0:00 1\n'
     bad_line 'a sign' 6 "$thread"$'fix 0:0 +1\n'
@@ -241,6 +458,34 @@ bad_lines() {
     bad_line 'a bad script before a missing file' 1 $'fix\n'
 }
 
+# The scripts of the folder examples.
+examples() {
+    blank_files
+    trail_is 'examples/empty.pool' "$(cat "$top/examples/empty.pool")" 0 "$empty_trail"
+    trail_is 'examples/first.pool' "$(cat "$top/examples/first.pool")" 0 \
+$'trail 0 3 2
+E 1 1.1 load 0:0 0
+E 2 1.1 fix 0:0 0 1 5
+R 2 1.2 copied 0:0 38 00000000 1
+R 2 1.3 unfixed 0:0 0 1
+E 3 0.1 clean 0 -
+'
+    run "$(cat "$top/examples/changes.pool")"
+    hex want/log 0 '01 00000000 00000001 0026 0002 cafe 0000000000002017'
+    stamp want/space 4096 00000000 1 0000000000002017
+    hex want/space $((4096 + 38)) cafe
+    expect 'examples/changes.pool' 0 \
+$'trail 0 5 2
+E 1 1.1 load 0:1 0
+E 2 1.1 fix 0:1 0 1 1
+E 3 1.2 put 0:1 38 cafe 8192 8215
+R 3 1.3 copied 0:1 38 cafe0000 3
+R 3 1.4 unfixed 0:1 0 1
+E 4 0.1 write 0:1 8215 8215
+E 5 0.1 clean 1 -
+' ''
+}
+
 # comments COUNT: so many bytes of comment lines, each of 64 bytes, the last cut short.
 comments() {
     local line
@@ -249,7 +494,7 @@ comments() {
 }
 
 long_scripts() {
-    blank_space
+    blank_files
     begin
     comments 1048576 >script
     (ulimit -t 1 && cd case && exec "$program" run 0 space log <../script >../out 2>../err)
@@ -259,6 +504,8 @@ long_scripts() {
     (ulimit -t 1 && cd case && exec "$program" run 0 space log <../script >../out 2>../err)
     status=$?
     expect 'a script that is a byte too long' 3 '' $'innopool: bad line 0\n'
+    rm case/log
+    begin
     { printf 'x\n' && comments 1048575; } >script
     (cd case && exec "$program" run 0 space log <../script >../out 2>../err)
     status=$?
@@ -292,18 +539,25 @@ words() {
 
 files() {
     blank_space
-    device_fault 'a missing file' missing
-    device_fault 'a file in a missing folder' missing/space
-    device_fault 'a folder' .
+    device_fault 'a missing file' missing log
+    device_fault 'a file in a missing folder' missing/space log
+    device_fault 'a folder' . log
+    device_fault 'a folder as the log' space .
+    device_fault 'a log in a missing folder' space missing/log
     cp case/space locked
     chmod 000 locked
     if [ "$(id -u)" = 0 ]; then
-        echo "skipped: root can open a file that may not be read"
+        echo "skipped: root can open a file that may not be read or written"
     else
-        device_fault 'a file that may not be read' ../locked
+        device_fault 'a file that may not be read' ../locked log
         chmod 400 locked
-        device_fault 'a file that may not be written' ../locked
+        device_fault 'a file that may not be written' ../locked log
+        device_fault 'a log that may not be written' space ../locked
     fi
+    run ''
+    : >want/log
+    expect 'a missing log is made' 0 "$empty_trail" ''
+    blank_files
     zeros 4095 >case/short
     run_words "$thread"$'fix 0:0 1\n' run 0 short log
     expect 'a file shorter than a page has no pages' 1 \
@@ -330,10 +584,17 @@ E 4 0.1 clean 0 -
 ' ''
     printf 'kept' >case/log
     trail_is 'a log that is there' '' 0 "$empty_trail"
+    trail_is 'a log that is there, and a page is read' "$thread"$'fix 0:0 1\n' 0 \
+$'trail 0 3 1
+E 1 1.1 load 0:0 0
+E 2 1.1 fix 0:0 0 1 1
+R 2 1.2 unfixed 0:0 0 1
+E 3 0.1 clean 0 -
+'
 }
 
 streams() {
-    blank_space
+    blank_files
     begin
     : >script
     (cd case && exec "$program" run 0 space log <../script >/dev/full 2>../err)
@@ -362,8 +623,12 @@ streams() {
     expect 'a script in pieces from a pipe' 0 "$empty_trail" ''
 }
 
+examples
 trails
 pages
+changes
+flushes
+logs
 bad_lines
 long_scripts
 words

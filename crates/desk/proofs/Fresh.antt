@@ -39,6 +39,7 @@ keeps_new c homes fr clocks one empty free zeros =
       distinct = subst F (sym free) (frames_rising 0 c.frames c.frames (omega arith));
       taken = λ p f e. absurd (cc);
       housed = λ p f e. absurd (cc);
+      alone = λ p q f e there. absurd (cc);
     }
   where
     times_one : (n : ℕ) → 1 * n ≡ n

@@ -1,5 +1,5 @@
 -- Why a page was not read in.
-use Rattle.std.specs.Prelude.{ℕ, List, ◌≡◌, Option, IfSome}
+use Rattle.std.specs.Prelude.{ℕ, List, ◌≡◌, ◌≤◌, Option, IfSome}
 use Rattle.page_ids.specs.Faults.{Rose}
 use Rattle.page_ids.specs.Refusal.{IsBad}
 use Rattle.page_ids.specs.declared.ids.PageId.{PageId}
@@ -17,6 +17,12 @@ pub record IsBadRead (told : Option (List ℕ)) (p : PageId) (bad : BadPage) : T
 pub record IsFault (was is before after : ℕ) : Type 0 where
   pub first : before ≡ was
   pub last : after ≡ is
+  pub rose : Rose before after
+
+-- the count of faults rose so within a call in which it went from `was` to `is`
+pub record RoseWithin (was is before after : ℕ) : Type 0 where
+  pub first : was ≤ before
+  pub last : after ≤ is
   pub rose : Rose before after
 
 -- the count of faults was so before the read and is so after it

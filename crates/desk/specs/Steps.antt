@@ -22,8 +22,6 @@ use Rattle.desk.specs.declared.calls.Caller.{Caller}
 use Rattle.desk.specs.declared.calls.Granted.{Granted}
 use Rattle.desk.specs.declared.calls.FixErr.{FixErr}
 use Rattle.desk.specs.declared.calls.FixErr.TheVariants as refusal
-use Rattle.desk.specs.declared.calls.CleanErr.{CleanErr}
-use Rattle.desk.specs.declared.calls.CleanErr.TheVariants as unclean
 use Rattle.desk.specs.Reads.{IsFault, IsBadRead}
 
 -- the numbers of a pool that starts with one chunk
@@ -31,14 +29,14 @@ pub record IsOneChunk (c : Config) : Type 0 where
   pub one : chunks_of c ≡ 1
   pub frames : c.frames ≤ 8192
 
--- whether the entry leaves homes, free frames and clocks
+-- whether the entry leaves homes, free frames, clocks and dirty pages
 abbrev pub is_quiet : Kind → Bool
 is_quiet (kind.Load p f) = false
 is_quiet (kind.Fix p f clock now) = true
 is_quiet (kind.Create p f start end now) = false
 is_quiet (kind.Put p at bytes start end) = false
 is_quiet (kind.Evict p f passed) = false
-is_quiet (kind.Write p lsn upto) = true
+is_quiet (kind.Write p lsn upto) = false
 is_quiet (kind.Move p from to) = false
 is_quiet (kind.Withdraw from) = false
 is_quiet (kind.Undo from) = false
@@ -149,9 +147,3 @@ pub record IsFresh {D : Type 0} (desk : State D) (config : Config) (instance : �
   pub history : desk.history ≡ []
   pub frames : length desk.images ≡ config.frames
   pub disk_is : desk.disk ≡ disk
-
--- why a clean was refused, and what stands then
-abbrev pub IsCleanRefusal : {D : Type 0} → (D → ℕ) → State D → State D → Caller → ℕ → CleanErr → Type 0
-IsCleanRefusal faults old new by bound unclean.OutOfMemory = new ≡ old
-IsCleanRefusal faults old new by bound (unclean.DiskFault before after) =
-    IsFault (faults old.disk) (faults new.disk) before after × IsAppended old new by (kind.Refused (call.Clean bound) (cause.DiskFault before after))

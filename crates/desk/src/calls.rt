@@ -29,6 +29,22 @@ pub enum FixErr {
     BadPage(BadPage),
 }
 
+/// A put that was done: the end LSN of its record, and the place of its entry, which is the frame's new clock.
+#[derive(Clone, Copy, Debug, PartialEq, Eq)]
+pub struct PutDone {
+    pub lsn: u64,
+    pub place: u64,
+}
+
+/// Why a put was refused. The page is then as it was.
+#[derive(Clone, Copy, Debug, PartialEq, Eq)]
+pub enum PutErr {
+    /// No memory. Nothing has changed.
+    OutOfMemory,
+    /// The log ends at `end`, and the put's record would end above 2^63.
+    LogSpent { end: u64 },
+}
+
 /// What a clean did: how many pages were written, and which frames were skipped because they were latched.
 #[derive(Debug, Drop)]
 pub struct Cleaned {
@@ -36,11 +52,13 @@ pub struct Cleaned {
     pub skipped: Words,
 }
 
-/// Why a clean was refused.
+/// Why a clean was refused. Pages that were written before a device failed stay written.
 #[derive(Clone, Copy, Debug, PartialEq, Eq)]
 pub enum CleanErr {
     /// No memory. Nothing has changed.
     OutOfMemory,
-    /// The disk's count of faults rose from `before` to `after` in the sync.
+    /// The log's count of faults rose from `before` to `after` as it was to be made durable.
+    RedoFault { before: u64, after: u64 },
+    /// The disk's count of faults rose from `before` to `after` in a write or in the sync.
     DiskFault { before: u64, after: u64 },
 }

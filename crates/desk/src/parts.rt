@@ -1,5 +1,5 @@
 //! What a desk is made of at the start, and small steps on its parts.
-ghost use Rattle.std.specs.Prelude.{◌≡◌, ◌<◌, ◌≤◌, ◌+◌, ◌++◌, ◌∷◌, [], ℕ, Some, OnOk, OnErr, IfOk, IfErr, IfSome, vec_len, vec_capacity, length, replicate, slice_get, Err, None};
+ghost use Rattle.std.specs.Prelude.{◌≡◌, ◌<◌, ◌≤◌, ◌+◌, ◌^◌, ◌++◌, ◌∷◌, [], ℕ, Some, OnOk, OnErr, IfOk, IfErr, IfSome, vec_len, vec_capacity, length, replicate, slice_get, Err, None};
 ghost use Rattle.page_ids.specs.Size.{page_bytes};
 ghost use Rattle.page_ids.specs.Chunks.{rising};
 ghost use Rattle.page_ids.specs.Content.{Content};
@@ -9,12 +9,20 @@ ghost use Rattle.page_ids.specs.Same.{same_page};
 ghost use Rattle.std.specs.HashMap.{get};
 ghost use Rattle.std.specs.HashMap.{spare};
 ghost use Rattle.page_disk.specs.Disks.{IsInside, IsSameDisk};
+ghost use Rattle.std.specs.List.{position};
+ghost use Rattle.std.specs.VecDeque.{deque_len, deque_capacity};
+ghost use Rattle.redo_mark.specs.Records.{head_of};
+ghost use Rattle.trail.specs.Dirt.{dirtied};
+ghost use Rattle.trail.specs.declared.event.Dirty.{Dirty};
+ghost use Rattle.desk.specs.Logged.{put_change};
 ghost use Rattle.desk.specs.Reads.{IsReadRefusal};
 
 use page_disk::PageDisk;
-use page_ids::{BadPage, Config, Failed, Image, OutOfMemory, PageId, PageSize, decode};
+use page_ids::{BadPage, Bytes, Config, Failed, Image, OutOfMemory, PageId, PageSize, decode};
+use redo_mark::{Change, ChangeKind, Draft, Span};
 use std::alloc::Global;
 use std::collections::{HashMap, VecDeque};
+use trail::Dirty;
 
 /// Why a page was not read in.
 #[derive(Clone, Copy, Debug)]
@@ -36,13 +44,61 @@ pub(crate) fn push_kept<T: Drop>(items: &mut Vec<T>, item: T)
     }
 }
 
+/// The draft of a put's record, and its bytes.
+pub(crate) fn drafted(
+    alloc: Global,
+    page: PageId,
+    at: u32,
+    bytes: &[u8],
+) -> Result<(Draft, Bytes), OutOfMemory>
+    requires fits { (at < 2 ^ 16) × (length bytes.now < 2 ^ 16) }
+    ensures draft { IfOk result (λ d. d.0 ≡ head_of (put_change page at bytes.now)) }
+    ensures bytes { IfOk result (λ d. d.1 ≡ bytes.now) }
+{
+    let change = Change {
+        page,
+        kind: ChangeKind::Put,
+        at,
+        bytes: Bytes::of(Vec::from_slice(alloc, bytes)?),
+    };
+    let draft = Draft::of(alloc, &change)?;
+    let Change { bytes, .. } = change;
+    Ok((draft, bytes))
+}
+
+/// Where the page stands in the list of dirty pages.
+fn dirty_place(dirty: &VecDeque<Dirty>, page: PageId) -> Option<usize>
+    ensures { result ≡ position (λ (d : Dirty). same_page d.page page) dirty.now.items }
+{
+    dirty.iter().position(|d| d.page == page)
+}
+
+/// Brings a page that was changed into the list of dirty pages: one that is dirty keeps its place and its oldest LSN, another one
+/// comes to the end (buf0buf's `buf_flush_note_modification`). Takes no memory.
+pub(crate) fn soil(dirty: &mut VecDeque<Dirty>, page: PageId, span: Span)
+    requires room { deque_len dirty.old < deque_capacity dirty.old }
+    ensures items { dirty.new.items ≡ dirtied page span.start span.end dirty.old.items }
+{
+    match dirty_place(dirty, page) {
+        Some(place) => {
+            let listed = &mut dirty[place];
+            listed.newest = span.end;
+        }
+        None => dirty.push_back_reserved(Dirty {
+            page,
+            oldest: span.start,
+            newest: span.end,
+        }),
+    }
+}
+
 /// Reads the bytes of a page into the buffer.
 fn fill<D: PageDisk>(disk: &mut D, page: PageId, buffer: &mut Vec<u8>) -> Result<(), Failed>
     requires inside { IsInside (D.space_pages disk.old) page }
     requires buffer { vec_len buffer.old ≡ D.page_size disk.old }
     ensures bytes { OnOk result (IfSome (D.told disk.old page) (λ bytes. buffer.new.items ≡ bytes)) }
     ensures buffer { vec_len buffer.new ≡ vec_len buffer.old }
-    ensures disk { IsSameDisk D.page_size D.told D.space_pages D.fault_count disk.old disk.new }
+    ensures disk { IsSameDisk D.page_size D.tells D.told D.space_pages D.fault_count disk.old disk.new }
     ensures cause { IsCounted (D.fault_count disk.old) (D.fault_count disk.new) result }
 {
     disk.read(page, buffer.as_mut_slice())
@@ -63,7 +119,7 @@ pub(crate) fn read_page<D: PageDisk>(
     ensures refused { IfErr result (λ e. IsReadRefusal (D.told disk.old page) (D.fault_count disk.old) (D.fault_count disk.new) page e) }
     ensures image { length image.new.bytes ≡ length image.old.bytes }
     ensures buffer { vec_len buffer.new ≡ vec_len buffer.old }
-    ensures disk { IsSameDisk D.page_size D.told D.space_pages D.fault_count disk.old disk.new }
+    ensures disk { IsSameDisk D.page_size D.tells D.told D.space_pages D.fault_count disk.old disk.new }
 {
     let before = disk.faults();
     if fill(disk, page, buffer).is_err() {

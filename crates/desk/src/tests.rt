@@ -1,13 +1,19 @@
 //! A desk over a disk in memory.
 ghost use Rattle.std.specs.Prelude.{◌≡◌, ◌<◌, ◌≤◌, ◌+◌, [], IfOk, OnOk, IsSome, length};
+ghost use Rattle.page_ids.specs.declared.ids.PageId.{PageId};
+ghost use Rattle.trail.specs.Dirt.{log_end};
 ghost use Rattle.trail.specs.History.{home};
 
-use crate::calls::{Caller, CleanErr, FixErr, Granted};
+use crate::calls::{Caller, FixErr, Granted, PutDone, PutErr};
 use crate::desk::Desk;
+use crate::parts::soil;
 use page_disk::DiskMemory;
 use page_ids::{BadPage, Config, OutOfMemory, PageId, PageSize};
+use redo_mark::{Redo, RedoMemory, Span};
 use std::alloc::Global;
+use std::collections::VecDeque;
 use std::test::Fail;
+use trail::Dirty;
 
 /// Two frames in one chunk.
 const CONFIG: Config = Config {
@@ -41,6 +47,7 @@ fn desk_of(
 ) -> Result<Desk<DiskMemory>, OutOfMemory>
     requires { page < 64 }
     ensures first { IfOk result (λ desk. desk.state.config.first ≡ 0) }
+    ensures size { IfOk result (λ desk. desk.state.config.page ≡ PageSize.Kib4) }
     ensures history { IfOk result (λ desk. desk.state.history ≡ []) }
 {
     let spaces = Vec::from_slice(alloc, &[(0, 64)])?;
@@ -58,12 +65,36 @@ fn desk_of(
 fn fix(desk: &mut Desk<DiskMemory>, number: u32, page: u32) -> Result<Granted, FixErr>
     requires first { desk.old.state.config.first ≡ 0 }
     requires room { length desk.old.state.history < 100 }
-    ensures first { desk.new.state.config.first ≡ 0 }
+    ensures config { desk.new.state.config ≡ desk.old.state.config }
     ensures count { length desk.new.state.history ≤ length desk.old.state.history + 2 }
+    ensures end { log_end desk.new.state.history ≡ log_end desk.old.state.history }
     ensures resident { OnOk result (IsSome (home desk.new.state.history (record { space = 0; page = page }))) }
 {
     let page = PageId { space: 0, page };
     desk.fix_at(Caller { pass: 1, number }, page, 5)
+}
+
+/// Puts bytes into page 0:7 as pass 1.
+fn put(
+    desk: &mut Desk<DiskMemory>,
+    redo: &mut Redo<RedoMemory>,
+    number: u32,
+    at: u32,
+    bytes: &[u8],
+) -> Result<PutDone, PutErr>
+    requires first { desk.old.state.config.first ≡ 0 }
+    requires size { desk.old.state.config.page ≡ PageSize.Kib4 }
+    requires room { length desk.old.state.history < 100 }
+    requires resident { IsSome (home desk.old.state.history (record { space = 0; page = 7 })) }
+    requires range { (0 < length bytes.now) × (38 ≤ at) × (at + length bytes.now ≤ 4088) }
+    requires known { log_end desk.old.state.history ≤ redo.old.seen.end }
+    ensures config { desk.new.state.config ≡ desk.old.state.config }
+    ensures count { length desk.new.state.history ≤ length desk.old.state.history + 1 }
+    ensures known { log_end desk.new.state.history ≤ redo.new.seen.end }
+    ensures resident { IsSome (home desk.new.state.history (record { space = 0; page = 7 })) }
+{
+    let page = PageId { space: 0, page: 7 };
+    desk.put_at(redo, Caller { pass: 1, number }, page, at, bytes)
 }
 
 /// The desk's entries, a line each.
@@ -185,24 +216,101 @@ fn a_granted_page_is_lent(rt: HostRuntime) -> Result<(), Fail> {
 }
 
 #[test]
-fn a_clean_syncs_where_it_should(rt: HostRuntime) -> Result<(), Fail> {
-    let mut desk = desk_of(rt.alloc(), 7, page_seven(), &[1])?;
-    let closing = Caller { pass: 0, number: 1 };
-    let cleaned = desk.clean_at(closing, 16384, false);
-    assert!(rt; cleaned.is_ok());
-    let refused = desk.clean_at(closing, 16384, true);
+fn a_put_changes_image_clock_and_lsn(rt: HostRuntime) -> Result<(), Fail> {
+    let alloc = rt.alloc();
+    let log = RedoMemory::new(Vec::new(alloc), Vec::new(alloc));
+    let mut redo = Redo::start(alloc, log, 8214)?;
+    let mut desk = desk_of(alloc, 7, page_seven(), &[])?;
+    let granted = fix(&mut desk, 1, 7);
+    assert!(rt; granted.is_ok());
+    let done = put(&mut desk, &mut redo, 2, 38, &[0xab, 0xcd]);
     assert_eq!(rt;
-        refused.err(),
-        Some(CleanErr::DiskFault {
-            before: 0,
-            after: 1
+        done,
+        Ok(PutDone {
+            lsn: 8237,
+            place: 3
+        })
+    );
+    let done = put(&mut desk, &mut redo, 3, 4087, &[0xef]);
+    assert_eq!(rt;
+        done,
+        Ok(PutDone {
+            lsn: 8259,
+            place: 4
+        })
+    );
+    let page = PageId { space: 0, page: 7 };
+    let mut body = [0; 4];
+    desk.image(page).copy_out(38, &mut body);
+    assert_eq!(rt; body, [0xab, 0xcd, 0, 0]);
+    assert_eq!(rt; desk.image(page).lsn(), 8259);
+    assert_eq!(rt; desk.clock(page), 4);
+    assert_eq!(rt; redo.end(), 8259);
+    assert_eq!(rt;
+        lines(alloc, desk)?.as_str(),
+        "E 1 1.1 load 0:7 0
+E 2 1.1 fix 0:7 0 1 5
+E 3 1.2 put 0:7 38 abcd 8214 8237
+E 4 1.3 put 0:7 4087 ef 8237 8259
+"
+    );
+    Ok(())
+}
+
+#[test]
+fn a_put_behind_the_last_lsn_changes_nothing(rt: HostRuntime) -> Result<(), Fail> {
+    let alloc = rt.alloc();
+    let log = RedoMemory::new(Vec::new(alloc), Vec::new(alloc));
+    let mut redo = Redo::start(alloc, log, 0x7fff_ffff_ffff_ffff)?;
+    let mut desk = desk_of(alloc, 7, page_seven(), &[])?;
+    let granted = fix(&mut desk, 1, 7);
+    assert!(rt; granted.is_ok());
+    let spent = PutErr::LogSpent {
+        end: 0x7fff_ffff_ffff_ffff,
+    };
+    assert_eq!(rt; put(&mut desk, &mut redo, 2, 38, &[0xab]), Err(spent));
+    let page = PageId { space: 0, page: 7 };
+    let mut body = [1; 1];
+    desk.image(page).copy_out(38, &mut body);
+    assert_eq!(rt; body, [0]);
+    assert_eq!(rt; desk.image(page).lsn(), 8214);
+    assert_eq!(rt; desk.clock(page), 1);
+    assert_eq!(rt; redo.end(), 0x7fff_ffff_ffff_ffff);
+    assert_eq!(rt;
+        lines(alloc, desk)?.as_str(),
+        "E 1 1.1 load 0:7 0
+E 2 1.1 fix 0:7 0 1 5
+E 3 1.2 refused put 0:7 38 ab LogSpent 9223372036854775807
+"
+    );
+    Ok(())
+}
+
+#[test]
+fn dirty_pages_stand_by_their_first_change(rt: HostRuntime) -> Result<(), Fail> {
+    let seven = PageId { space: 0, page: 7 };
+    let eight = PageId { space: 0, page: 8 };
+    let mut dirty = VecDeque::new(rt.alloc());
+    for (page, start, end) in [(seven, 10, 32), (eight, 32, 54), (seven, 54, 80)] {
+        dirty.reserve(1)?;
+        soil(&mut dirty, page, Span { start, end });
+    }
+    assert_eq!(rt; dirty.len(), 2);
+    assert_eq!(rt;
+        dirty.pop_front(),
+        Some(Dirty {
+            page: seven,
+            oldest: 10,
+            newest: 80
         })
     );
     assert_eq!(rt;
-        lines(rt.alloc(), desk)?.as_str(),
-        "E 1 0.1 clean 0 -
-E 2 0.1 refused clean 16384 DiskFault 0 1
-"
+        dirty.pop_front(),
+        Some(Dirty {
+            page: eight,
+            oldest: 32,
+            newest: 54
+        })
     );
     Ok(())
 }

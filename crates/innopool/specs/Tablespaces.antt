@@ -1,11 +1,14 @@
 -- What a tablespace file tells as a disk: its size, its one space, and its count of faults, but no content.
-use Rattle.std.specs.Prelude.{ℕ, List, Option, None, Some, ◌==◌, if◌then◌else◌}
+use Rattle.std.specs.Prelude.{ℕ, Bool, false, List, Option, None, Some, ◌==◌, if◌then◌else◌}
 use Rattle.page_ids.specs.Size.{page_bytes}
 use Rattle.page_ids.specs.declared.ids.PageId.{PageId}
 use Rattle.innopool.specs.declared.tablespace.TablespaceFile.{TablespaceFile}
 
 abbrev pub size_of : TablespaceFile → ℕ
 size_of d = page_bytes d.size
+
+abbrev pub tells_of : TablespaceFile → Bool
+tells_of d = false
 
 abbrev pub told_of : TablespaceFile → PageId → Option (List ℕ)
 told_of d p = None

@@ -1,10 +1,11 @@
-//! The program: its words, standard input and output, and the tablespace file, handed to the library's top call.
+//! The program: its words, standard input and output, the tablespace file and the log file, handed to the library's top call.
 //!
 //! All that matters is in `script_run::run`. Here stand the adapters over the real outside, which tell no content
 //! and count their faults from 0, and the lines on standard error.
 #![tactic(auto)]
 
 mod file_shelf;
+mod log_file;
 mod standard;
 mod tablespace;
 #[cfg(test)]
@@ -33,10 +34,10 @@ fn words_of(rt: &HostRuntime) -> Result<Vec<String>, WordsErr> {
 /// Does what the words ask for. Answers the status and, for a bad script, its line.
 fn play(rt: &HostRuntime) -> Result<(u8, u32), WordsErr> {
     let words = words_of(rt)?;
-    let Program::Run { space, file, .. } = command_of(rt.alloc(), &words)?;
+    let Program::Run { space, file, log } = command_of(rt.alloc(), &words)?;
     let mut script = InputStream::new(rt.stdin());
     let mut out = OutputStream::new(rt.stdout());
-    let mut shelf = FileShelf::new(rt, space, file.as_str());
+    let mut shelf = FileShelf::new(rt, space, file.as_str(), log.as_str());
     let outcome = run(rt, rt.alloc(), &words, &mut script, &mut out, &mut shelf);
     Ok((outcome.status, outcome.line))
 }

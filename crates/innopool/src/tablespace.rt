@@ -1,12 +1,14 @@
 //! The tablespace file as a disk of pages.
-ghost use Rattle.std.specs.Prelude.{◌≡◌, length, IfOk};
+ghost use Rattle.std.specs.Prelude.{◌≡◌, ◌≤◌, ◌*◌, length, IfOk, OnOk, OnErr, IsTrue, Some};
 ghost use Rattle.page_ids.specs.Faults.{IsCounted};
-ghost use Rattle.page_disk.specs.Disks.{IsInside, IsSameDisk};
+ghost use Rattle.page_ids.specs.Layout.{u64_at};
+ghost use Rattle.page_disk.specs.Disks.{IsInside, IsSameDisk, IsOtherwiseSame, Fades};
 ghost use Rattle.page_disk.specs.Calls.{CountsOnce};
-ghost use Rattle.innopool.specs.Tablespaces.{size_of, told_of, spaces_of, faults_of};
+ghost use Rattle.innopool.specs.Tablespaces.{size_of, tells_of, told_of, spaces_of, faults_of};
 
 use page_disk::{FaultCount, PageDisk};
 use page_ids::{Failed, PageId, PageSize};
+use redo_mark::Covered;
 use std::fs::File;
 use std::io;
 use std::os::unix::fs::FileExt;
@@ -37,10 +39,22 @@ impl TablespaceFile {
             faults: FaultCount::new(),
         })
     }
+
+    /// Where the page's first byte stands in the file.
+    fn offset_of(&self, page: PageId) -> u64
+        ensures { result ≡ page.page * size_of self.now }
+    {
+        u64::from(page.page) * u64::from(self.size.bytes())
+    }
 }
 
 impl PageDisk for TablespaceFile {
+    ghost use Rattle.std.specs.Prelude.{None};
+    ghost use Rattle.innopool.specs.Tablespaces.{size_of, tells_of, told_of, spaces_of, faults_of};
+
     ghost page_size = { size_of };
+
+    ghost tells = { tells_of };
 
     ghost told = { told_of };
 
@@ -48,23 +62,48 @@ impl PageDisk for TablespaceFile {
 
     ghost fault_count = { faults_of };
 
+    ghost silent = { λ d p silent. λ i. None };
+
     /// A file that ends before the page does has failed.
     fn read(&mut self, page: PageId, out: &mut [u8]) -> Result<(), Failed>
         requires inside { IsInside (spaces_of self.old) page }
         requires size { length out.old ≡ size_of self.old }
-        ensures same { IsSameDisk size_of told_of spaces_of faults_of self.old self.new }
+        ensures same { IsSameDisk size_of tells_of told_of spaces_of faults_of self.old self.new }
         ensures cause { IsCounted (faults_of self.old) (faults_of self.new) result }
         ensures once { CountsOnce (faults_of self.old) (faults_of self.new) result }
     {
-        let at = u64::from(page.page) * u64::from(self.size.bytes());
-        match self.file.read_exact_at(out, at) {
+        match self.file.read_exact_at(out, self.offset_of(page)) {
+            Ok(()) => Ok(()),
+            Err(_) => Err(self.faults.fail()),
+        }
+    }
+
+    /// A file that takes a beginning of the page and then no more has failed.
+    fn write(
+        &mut self,
+        page: PageId,
+        bytes: &[u8],
+        lsn: u64,
+        covered: &Covered,
+    ) -> Result<(), Failed>
+        requires inside { IsInside (spaces_of self.old) page }
+        requires size { length bytes.now ≡ size_of self.old }
+        requires stamped { u64_at bytes.now 16 ≡ lsn }
+        requires covered { lsn ≤ covered.now }
+        ensures written { OnOk result (IsTrue (tells_of self.old) → told_of self.new page ≡ Some bytes.now) }
+        ensures failed { OnErr result (Fades (told_of self.old page) (told_of self.new page)) }
+        ensures others { IsOtherwiseSame size_of tells_of told_of spaces_of faults_of page self.old self.new }
+        ensures cause { IsCounted (faults_of self.old) (faults_of self.new) result }
+        ensures once { CountsOnce (faults_of self.old) (faults_of self.new) result }
+    {
+        match self.file.write_all_at(bytes, self.offset_of(page)) {
             Ok(()) => Ok(()),
             Err(_) => Err(self.faults.fail()),
         }
     }
 
     fn sync(&mut self) -> Result<(), Failed>
-        ensures same { IsSameDisk size_of told_of spaces_of faults_of self.old self.new }
+        ensures same { IsSameDisk size_of tells_of told_of spaces_of faults_of self.old self.new }
         ensures cause { IsCounted (faults_of self.old) (faults_of self.new) result }
         ensures once { CountsOnce (faults_of self.old) (faults_of self.new) result }
     {

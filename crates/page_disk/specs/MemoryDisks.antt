@@ -1,5 +1,5 @@
 -- Disks in memory, and a shelf of them.
-use Rattle.std.specs.Prelude.{ℕ, List, Option, None, Some, ◌≡◌, ◌≢◌, ◌==◌, cond, length, map, find, replicate, nat_lt, slice_get, unwrap_or, IfSome, option_map, option_and_then, if◌then◌else◌}
+use Rattle.std.specs.Prelude.{ℕ, Bool, true, false, List, Option, None, Some, ◌≡◌, ◌≢◌, ◌==◌, ◌++◌, ◌/◌, cond, length, map, find, take, drop, replicate, nat_lt, slice_get, IfSome, option_map, option_and_then, if◌then◌else◌}
 use Rattle.std.specs.Global.{Vec}
 use Rattle.std.specs.Map.{lookup}
 use Rattle.std.specs.BTreeMap.{is_at}
@@ -7,43 +7,61 @@ use Rattle.page_ids.specs.Size.{page_bytes}
 use Rattle.page_ids.specs.Same.{page_cmp}
 use Rattle.page_ids.specs.declared.ids.PageId.{PageId}
 use Rattle.page_ids.specs.declared.ids.PageSize.{PageSize}
-use Rattle.page_disk.specs.Calls.{Calls}
+use Rattle.redo_mark.specs.Device.{Told, IsAsOpened}
+use Rattle.redo_mark.specs.Memory.{Counts}
+use Rattle.redo_mark.specs.declared.memory.RedoMemory.{RedoMemory}
 use Rattle.page_disk.specs.Disks.{pages_in}
 use Rattle.page_disk.specs.Shelves.{Asked}
+
+-- the bytes that are kept of a page, and whether its last write failed behind the first half
+pub record Kept : Type 0 where
+  pub bytes : List ℕ
+  pub torn : Bool
 
 -- its spaces with their numbers of pages, and the pages that it keeps; every other page is of zeros
 pub record DiskMemory : Type 0 where
   pub size : PageSize
   pub spaces : List (ℕ × ℕ)
-  pub kept : List (PageId × List ℕ)
-  pub calls : Calls
+  pub kept : List (PageId × Kept)
+  pub calls : Counts
 
 -- how many pages a space has
 abbrev pub pages_of : List (ℕ × ℕ) → ℕ → Option ℕ
 pages_of spaces space = option_map (λ s. s.1) (find (λ s. s.0 == space) spaces)
 
--- the bytes that are kept of a page
-abbrev pub kept_of : List (PageId × List ℕ) → PageId → Option (List ℕ)
+-- what is kept of a page
+abbrev pub kept_of : List (PageId × Kept) → PageId → Option Kept
 kept_of kept p = lookup (is_at (page_cmp p)) kept
 
--- the page is kept with these bytes, and all others as before
-abbrev pub IsKept : PageId → List ℕ → List (PageId × List ℕ) → List (PageId × List ℕ) → Type 0
-IsKept page bytes old new = (p : PageId) → kept_of new p ≡ cond (is_at (page_cmp page) p) (Some bytes) (kept_of old p)
+-- this is kept of the page, and of all others the same as before
+abbrev pub IsKept : PageId → Kept → List (PageId × Kept) → List (PageId × Kept) → Type 0
+IsKept page now old new = (p : PageId) → kept_of new p ≡ cond (is_at (page_cmp page) p) (Some now) (kept_of old p)
+
+-- a page that was written whole
+abbrev pub whole : List ℕ → Kept
+whole bytes = record { bytes = bytes; torn = false }
+
+-- a page over whose bytes the first half was written
+abbrev pub half_over : List ℕ → List ℕ → Kept
+half_over bytes before = record { bytes = take (length bytes / 2) bytes ++ drop (length bytes / 2) before; torn = true }
 
 -- pages with their bytes
-abbrev pub contents_of : List (PageId × Vec ℕ) → List (PageId × List ℕ)
-contents_of pages = map (λ e. (e.0, e.1.items)) pages
+abbrev pub contents_of : List (PageId × Vec ℕ) → List (PageId × Kept)
+contents_of pages = map (λ e. (e.0, whole e.1.items)) pages
 
 -- a page whose bytes are so many
 abbrev pub HasSize : ℕ → PageId × Vec ℕ → Type 0
 HasSize size e = length e.1.items ≡ size
 
 -- every page that is kept has so many bytes
-abbrev pub IsSized : ℕ → List (PageId × List ℕ) → Type 0
-IsSized size kept = (p : PageId) → IfSome (kept_of kept p) (λ bytes. length bytes ≡ size)
+abbrev pub IsSized : ℕ → List (PageId × Kept) → Type 0
+IsSized size kept = (p : PageId) → IfSome (kept_of kept p) (λ k. length k.bytes ≡ size)
 
 abbrev pub size_of : DiskMemory → ℕ
 size_of d = page_bytes d.size
+
+abbrev pub tells_of : DiskMemory → Bool
+tells_of d = true
 
 abbrev pub spaces_of : DiskMemory → ℕ → Option ℕ
 spaces_of d = pages_of d.spaces
@@ -51,16 +69,30 @@ spaces_of d = pages_of d.spaces
 abbrev pub faults_of : DiskMemory → ℕ
 faults_of d = d.calls.faults
 
--- every page of its spaces is told
-abbrev pub told_of : DiskMemory → PageId → Option (List ℕ)
-told_of d p = if nat_lt p.page (pages_in (spaces_of d) p.space)
-    then Some (unwrap_or (kept_of d.kept p) (replicate (size_of d) 0)) else None
+-- the bytes of a page of this size: zeros where none are kept
+abbrev pub bytes_in : ℕ → Option Kept → List ℕ
+bytes_in size None = replicate size 0
+bytes_in size (Some k) = k.bytes
 
--- the disks that it will hand out, and how it was called
+-- the same where they are told: a torn page is not
+abbrev pub told_in : ℕ → Option Kept → Option (List ℕ)
+told_in size None = Some (replicate size 0)
+told_in size (Some k) = if k.torn then None else Some k.bytes
+
+-- what a read of the page gives
+abbrev pub bytes_of : DiskMemory → PageId → List ℕ
+bytes_of d p = bytes_in (size_of d) (kept_of d.kept p)
+
+-- every page of its spaces is told but the torn ones
+abbrev pub told_of : DiskMemory → PageId → Option (List ℕ)
+told_of d p = if nat_lt p.page (pages_in (spaces_of d) p.space) then told_in (size_of d) (kept_of d.kept p) else None
+
+-- the disks and the log that it will hand out, and how it was called
 pub record MemoryShelf : Type 0 where
   pub disks : List DiskMemory
+  pub redo : Option RedoMemory
   pub asked : Asked
-  pub calls : Calls
+  pub calls : Counts
 
 -- what the disk at this place tells, its spaces, and its count of faults
 abbrev pub disk_told_of : List DiskMemory → ℕ → PageId → Option (List ℕ)
@@ -75,3 +107,17 @@ disk_faults_of disks n = option_map faults_of (slice_get disks n)
 -- no disk of this page size comes next
 abbrev pub IsMissing : PageSize → List DiskMemory → Type 0
 IsMissing size disks = IfSome (slice_get disks 0) (λ d. d.size ≢ size)
+
+-- what the log's device tells, and its count of faults
+abbrev pub redo_told : RedoMemory → Option Told
+redo_told m = Rattle.redo_mark.specs.Memory.told_of m.written.items m.kept
+
+abbrev pub log_told_of : Option RedoMemory → Option Told
+log_told_of redo = option_and_then redo_told redo
+
+abbrev pub log_faults_of : Option RedoMemory → Option ℕ
+log_faults_of redo = option_map (λ m. m.calls.faults) redo
+
+-- nothing was written to the device
+abbrev pub IsUnwritten : RedoMemory → Type 0
+IsUnwritten m = IsAsOpened m.opened (redo_told m)

@@ -1,7 +1,10 @@
-//! Counts of faults, and the calls at which a form in memory is to fail.
+//! Counts of faults, and how a call of a form in memory begins.
 ghost use Rattle.std.specs.Prelude.{◌≡◌, ◌≤◌, ◌↔◌, OnErr, OnOk, IsErr};
+ghost use Rattle.page_ids.specs.Faults.{IsCounted};
+ghost use Rattle.page_disk.specs.Calls.{answered, failed, IsListed};
 
 use page_ids::Failed;
+use redo_mark::Calls;
 use std::marker::Model;
 
 /// How often a device failed. Stays at 2^64 - 1.
@@ -20,7 +23,7 @@ impl Model for FaultCount {
 
 impl FaultCount {
     ghost use Rattle.page_ids.specs.Faults.{Rose};
-    ghost use Rattle.page_disk.specs.Calls.{next_number};
+    ghost use Rattle.redo_mark.specs.Memory.{risen};
 
     /// No fault so far.
     pub fn new() -> FaultCount
@@ -31,7 +34,7 @@ impl FaultCount {
 
     /// Counts a fault, and gives the answer for it.
     pub fn fail(&mut self) -> Failed
-        ensures counted { self.new ≡ next_number self.old }
+        ensures counted { self.new ≡ risen self.old }
         ensures later { self.old ≤ self.new }
         ensures rose { Rose self.old self.new }
     {
@@ -46,63 +49,15 @@ impl FaultCount {
     }
 }
 
-/// The calls of a form in memory: a list of those that fail, how many there were, and how many failed.
-#[derive(Debug, Drop)]
-pub(crate) struct Calls {
-    failing: Vec<u64>,
-    made: u64,
-    faults: FaultCount,
-}
-
-impl Model for Calls {
-    ghost use Rattle.page_disk.specs.Calls.{Calls};
-
-    ghost Value = { Calls };
-
-    ghost view = { λ c. record { failing = c.failing.items; made = c.made; faults = c.faults } };
-}
-
-impl Calls {
-    ghost use Rattle.page_ids.specs.Faults.{Rose, IsCounted};
-    ghost use Rattle.page_disk.specs.Calls.{uncalled, answered, failed, IsListed, next_number};
-
-    /// No call so far. A call fails where its number, from 1, is in the list; numbers stay at 2^64 - 1.
-    pub(crate) fn new(failing: Vec<u64>) -> Calls
-        ensures { result ≡ uncalled failing.items }
-    {
-        Calls {
-            failing,
-            made: 0,
-            faults: FaultCount::new(),
-        }
+/// Begins a call of a form in memory; at a listed one it counts a fault.
+pub(crate) fn begin(calls: &mut Calls) -> Result<(), Failed>
+    ensures exact { IsErr result ↔ IsListed calls.old }
+    ensures ok { OnOk result (calls.new ≡ answered calls.old) }
+    ensures err { OnErr result (calls.new ≡ failed calls.old) }
+    ensures cause { IsCounted calls.old.faults calls.new.faults result }
+{
+    if calls.begin() {
+        return Err(calls.fail());
     }
-
-    /// Begins a call; at a listed one it counts a fault.
-    pub(crate) fn begin(&mut self) -> Result<(), Failed>
-        ensures exact { IsErr result ↔ IsListed self.old }
-        ensures ok { OnOk result (self.new ≡ answered self.old) }
-        ensures err { OnErr result (self.new ≡ failed self.old) }
-        ensures cause { IsCounted self.old.faults self.new.faults result }
-    {
-        self.made = self.made.saturating_add(1);
-        if self.failing.contains(&self.made) {
-            return Err(self.faults.fail());
-        }
-        Ok(())
-    }
-
-    /// Counts a fault of the call that was begun.
-    pub(crate) fn fail(&mut self) -> Failed
-        ensures counted { self.new ≡ record self.old { faults = next_number self.old.faults } }
-        ensures later { self.old.faults ≤ self.new.faults }
-        ensures rose { Rose self.old.faults self.new.faults }
-    {
-        self.faults.fail()
-    }
-
-    pub(crate) fn faults(&self) -> u64
-        ensures { result ≡ self.now.faults }
-    {
-        self.faults.get()
-    }
+    Ok(())
 }

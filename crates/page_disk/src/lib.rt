@@ -1,8 +1,10 @@
-//! The outside: where a script comes from and text goes to, the disks of pages, and the shelf that hands disks out.
+//! The outside: where a script comes from and text goes to, the disks of pages, and the shelf that hands out disks and the log's device.
 //!
 //! Each of these is a trait with a written meaning: a count of faults that never falls, and what the device holds, which a form may tell or not.
-//! The forms in memory tell all; adapters over real files tell no content. Knows nothing of frames, histories or the log's records.
-//! The layers above use one contract: a told page is what a read gives, no call changes it, and a call fails only where the count rose.
+//! The forms in memory tell all; adapters over real files tell no content. Knows of the log its device and what a `Covered` shows;
+//! knows nothing of frames, histories or the log's records.
+//! The layers above use one contract: a told page is what a read gives, only a write changes a page, its own, and only where the log is
+//! durable up to the page's LSN; and a call fails only where the count rose.
 #![tactic(auto)]
 
 pub mod asked;

@@ -2,11 +2,12 @@
 ghost use Rattle.std.specs.Prelude.{◌≡◌, ◌<◌, ◌-◌, ◌^◌, ◌⊎◌, [], min, length, Some, OnOk, OnErr, IfOk};
 ghost use Rattle.page_ids.specs.Faults.{IsCounted};
 ghost use Rattle.page_disk.specs.Streams.{Puts};
-ghost use Rattle.page_disk.specs.Calls.{IsListed, IsCalled, next_number, uncalled};
+ghost use Rattle.page_disk.specs.Calls.{IsListed, answered, failed, starved, uncalled};
 
-use crate::calls::Calls;
+use crate::calls::begin;
 use crate::stream::Sink;
 use page_ids::Failed;
+use redo_mark::Calls;
 use std::alloc::Global;
 use std::marker::Model;
 
@@ -14,7 +15,6 @@ use std::marker::Model;
 #[derive(Debug, Drop)]
 pub struct SinkMemory {
     held: Vec<u8>,
-    wants: u64,
     calls: Calls,
 }
 
@@ -23,17 +23,16 @@ impl Model for SinkMemory {
 
     ghost Value = { SinkMemory };
 
-    ghost view = { λ s. record { held = s.held.items; wants = s.wants; calls = s.calls } };
+    ghost view = { λ s. record { held = s.held.items; calls = s.calls } };
 }
 
 impl SinkMemory {
     /// A sink that holds nothing, and fails at its calls with these numbers, from 1.
     pub fn new(alloc: Global, failing: Vec<u64>) -> SinkMemory
-        ensures { result ≡ record { held = []; wants = 0; calls = uncalled failing.items } }
+        ensures { result ≡ record { held = []; calls = uncalled failing.items } }
     {
         SinkMemory {
             held: Vec::new(alloc),
-            wants: 0,
             calls: Calls::new(failing),
         }
     }
@@ -47,9 +46,9 @@ impl SinkMemory {
 
     /// How many calls found no memory. Stays at 2^64 - 1.
     pub fn wants(&self) -> u64
-        ensures { result ≡ self.now.wants }
+        ensures { result ≡ self.now.calls.wants }
     {
-        self.wants
+        self.calls.wants()
     }
 }
 
@@ -65,15 +64,14 @@ impl Sink for SinkMemory {
         ensures bytes { Puts (Some self.old.held) (Some self.new.held) result piece.now }
         ensures cause { IsCounted self.old.calls.faults self.new.calls.faults result }
         ensures many { IfOk result (λ n. n ≡ min (length piece.now) (2 ^ 32 - 1)) }
-        ensures ok { OnOk result ((¬ (IsListed self.old.calls)) × (self.new.wants ≡ self.old.wants)) }
-        ensures err { OnErr result ((IsListed self.old.calls × (self.new.wants ≡ self.old.wants))
-            ⊎ ((¬ (IsListed self.old.calls)) × (self.new.wants ≡ next_number self.old.wants))) }
-        ensures calls { IsCalled self.old.calls self.new.calls result }
+        ensures ok { OnOk result ((¬ (IsListed self.old.calls)) × (self.new.calls ≡ answered self.old.calls)) }
+        ensures err { OnErr result ((IsListed self.old.calls × (self.new.calls ≡ failed self.old.calls))
+            ⊎ ((¬ (IsListed self.old.calls)) × (self.new.calls ≡ starved self.old.calls))) }
     {
-        self.calls.begin()?;
+        begin(&mut self.calls)?;
         let n = piece.len().min(0xffff_ffff);
         if self.held.extend_from_slice(&piece[..n]).is_err() {
-            self.wants = self.wants.saturating_add(1);
+            self.calls.want();
             return Err(self.calls.fail());
         }
         Ok(n as u32)

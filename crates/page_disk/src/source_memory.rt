@@ -4,9 +4,10 @@ ghost use Rattle.page_ids.specs.Faults.{IsCounted};
 ghost use Rattle.page_disk.specs.Streams.{Takes};
 ghost use Rattle.page_disk.specs.Calls.{IsListed, IsCalled, uncalled};
 
-use crate::calls::Calls;
+use crate::calls::begin;
 use crate::stream::Source;
 use page_ids::Failed;
+use redo_mark::Calls;
 use std::marker::Model;
 
 /// Bytes in memory that are taken once. A call gives as many as there is room for.
@@ -57,7 +58,7 @@ impl Source for SourceMemory {
         ensures exact { IsErr result ↔ IsListed self.old.calls }
         ensures calls { IsCalled self.old.calls self.new.calls result }
     {
-        self.calls.begin()?;
+        begin(&mut self.calls)?;
         let n = (self.bytes.len() - self.at).min(out.len()).min(0xffff_ffff);
         out[..n].copy_from_slice(&self.bytes[self.at..self.at + n]);
         self.at += n;

@@ -1,3 +1,7 @@
 pub mod Hex
 pub mod Stamped
 pub mod Listed
+pub mod Overwritten
+pub mod Encoded
+pub mod Pages
+pub mod midpoint

@@ -1,5 +1,5 @@
 -- The fields of a frame's word, and its text.
-use Rattle.std.specs.Prelude.{ℕ, Bool, true, false, List, [], ◌∷◌, ◌++◌, ◌==◌, ◌/◌, ◌%◌, ◌^◌, codes}
+use Rattle.std.specs.Prelude.{ℕ, Bool, true, false, List, ◌∷◌, ◌++◌, ◌==◌, ◌/◌, ◌%◌, ◌^◌, codes}
 use Rattle.std.specs.Fmt.{decimal}
 use Rattle.page_ids.specs.declared.frame_word.Word.{Word}
 

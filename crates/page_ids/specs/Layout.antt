@@ -1,5 +1,5 @@
 -- The layout of a page on disk: InnoDB's FIL header, the body, the FIL trailer. Numbers are big-endian.
-use Rattle.std.specs.Prelude.{ℕ, Bool, List, [], ◌∷◌, ◌≡◌, ◌≢◌, ◌⊎◌, ◌+◌, ◌-◌, ◌<◌, length, slice_index, EachIndex, IsTrue, if◌then◌else◌}
+use Rattle.std.specs.Prelude.{ℕ, List, [], ◌∷◌, ◌≡◌, ◌⊎◌, ◌+◌, ◌-◌, ◌<◌, length, slice_index, EachIndex, if◌then◌else◌}
 use Rattle.std.specs.Int.{from_be_bytes, w32, w64}
 use Rattle.page_ids.specs.Content.{Content, is_stamped}
 use Rattle.page_ids.specs.declared.ids.PageId.{PageId}
@@ -47,3 +47,8 @@ IsSound p bytes = IsBlank bytes ⊎ IsWritten p bytes
 pub record IsPage (p : PageId) (bytes : List ℕ) (content : Content) : Type 0 where
   pub sound : IsSound p bytes
   pub content_is : IsContent bytes content
+
+-- both checksum fields, at the front and before the last four bytes, are 0xDEADBEEF, which stands where no checksum is made
+pub record IsSummed (bytes : List ℕ) : Type 0 where
+  pub head : u32_at bytes 0 ≡ 3735928559
+  pub tail : u32_at bytes (length bytes - 8) ≡ 3735928559

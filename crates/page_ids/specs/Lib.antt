@@ -7,3 +7,4 @@ pub mod Spelling
 pub mod Content
 pub mod Layout
 pub mod Refusal
+pub mod Midpoint

@@ -1,12 +1,13 @@
 //! A page's image: what a frame holds of a page.
 ghost use Rattle.std.specs.Prelude.{◌≡◌, ◌≤◌, ◌+◌, length, IfOk, replicate, slice_range};
 ghost use Rattle.page_ids.specs.Size.{page_bytes};
-ghost use Rattle.page_ids.specs.Content.{IsRange};
+ghost use Rattle.page_ids.specs.Content.{IsRange, IsBlanked, patched};
 ghost use Rattle.page_ids.specs.Layout.{IsContent};
 
 use crate::faults::OutOfMemory;
 use crate::ids::PageSize;
 use crate::layout::{copy_unstamped, read_u64};
+use crate::writing::overwrite;
 use std::alloc::Global;
 use std::marker::Model;
 
@@ -60,6 +61,25 @@ impl Image {
         let from = at as usize;
         let to = from + out.len();
         out.copy_from_slice(&self.bytes[from..to]);
+    }
+
+    /// Replaces bytes of the body from `at` on, and sets the LSN: that of the change's end in the log
+    /// (InnoDB's `mlog_write_string`, and buf0flu's `newest_modification`). The range lies behind the header of 38 bytes and before the trailer of 8.
+    pub fn patch(&mut self, at: u32, bytes: &[u8], lsn: u64)
+        requires range { IsRange self.old.bytes at (length bytes.now) }
+        ensures { self.new ≡ patched self.old at bytes.now lsn }
+    {
+        overwrite(&mut self.bytes, at as usize, bytes);
+        self.lsn = lsn;
+    }
+
+    /// Copies all bytes as they are kept, with 0 for what is stamped.
+    pub(crate) fn copy_whole(&self, out: &mut [u8])
+        requires { length out.old ≡ length self.now.bytes }
+        ensures bytes { out.new ≡ self.now.bytes }
+        ensures blanked { IsBlanked self.now.bytes }
+    {
+        out.copy_from_slice(&self.bytes);
     }
 
     /// Takes in the bytes of a page of this size.

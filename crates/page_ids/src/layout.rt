@@ -30,7 +30,7 @@ fn is_stamped_at(size: usize, k: usize) -> bool
 }
 
 /// The number in four bytes.
-fn read_u32(bytes: &[u8], at: usize) -> u32
+pub(crate) fn read_u32(bytes: &[u8], at: usize) -> u32
     requires { at + 4 ≤ length bytes.now }
     ensures { result ≡ u32_at bytes.now at }
 {

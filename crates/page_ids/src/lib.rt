@@ -1,7 +1,8 @@
 //! Page ids, page sizes, images and the layout of a page on disk, the word of a frame, and the numbers a pool is made with.
 //!
 //! The lowest crate: it holds the plain types that every other crate speaks of, and knows nothing of a pool, a history or a device.
-//! The layers above use one contract of it: the relation between the bytes of a page and its image.
+//! The layers above use one contract of it: the relation between the bytes of a page and its image, which `decode` and `encode`
+//! establish in either direction. Each of the two tells the other.
 #![tactic(auto)]
 
 pub mod config;
@@ -11,6 +12,7 @@ pub mod ids;
 pub mod image;
 pub mod layout;
 pub mod lists;
+pub mod writing;
 
 pub use config::Config;
 pub use faults::{Failed, OutOfMemory};
@@ -19,6 +21,7 @@ pub use ids::{PageId, PageSize};
 pub use image::Image;
 pub use layout::{BadPage, decode};
 pub use lists::{Bytes, Ids, Words};
+pub use writing::{a_page_has_one_image, an_image_has_one_page, encode};
 
 #[cfg(test)]
 mod tests;

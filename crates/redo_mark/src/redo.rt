@@ -319,6 +319,8 @@ impl<R: RedoDisk> Redo<R> {
     /// Ends the log and hands its device back. Records that are not durable are dropped.
     pub fn close(self) -> RedoEnd<R>
         ensures disk { result.disk ≡ self.disk }
+        ensures opened { self.seen.opened ≡ self.seen.first + R.opened result.disk }
+        ensures faults { self.seen.faults ≡ R.fault_count result.disk }
         ensures end { result.end ≡ self.seen.end }
         ensures durable { (result.durable ≡ self.seen.durable) × (result.durable ≤ result.end) }
         ensures kept { IsKept self.seen (R.told result.disk) }

@@ -1,23 +1,30 @@
 -- What a command leaves of desk and worker, apart from laws.
-use Rattle.std.proofs.Common.{◌≡◌, ℕ, suc, Bool, true, false, cond, List, [], ◌∷◌, ◌++◌, ◌+◌, ◌≤◌, Option, Some, None, length, refl, ap, ◌∙◌, sym, subst, nat_eq, IsSome, arith, slice_get, drop, take, reverse}
+use Rattle.std.proofs.Common.{◌≡◌, ℕ, suc, Bool, true, false, cond, List, [], ◌∷◌, ◌++◌, ◌+◌, ◌≤◌, Option, Some, None, length, refl, ap, ◌∙◌, sym, subst, nat_eq, IsSome, arith, slice_get, drop, take, reverse, append_assoc}
 use Rattle.std.proofs.lemmas.List.{reverse-append}
 use Rattle.page_ids.specs.Same.{same_page}
 use Rattle.page_ids.specs.declared.ids.PageId.{PageId}
+use Rattle.redo_mark.specs.Logs.{Seen, Grows, IsLater}
 use Rattle.trail.specs.declared.event.Entry.{Entry}
 use Rattle.trail.specs.declared.event.Held.{Held}
 use Rattle.trail.specs.declared.event.Kind.{Kind}
 use Rattle.trail.specs.declared.event.Kind.TheVariants as kind
 use Rattle.trail.specs.declared.event.Call.TheVariants as call
 use Rattle.trail.specs.declared.event.Cause.{Cause}
+use Rattle.trail.specs.declared.event.Cause.TheVariants as cause
 use Rattle.trail.specs.declared.event.Note.{Note}
 use Rattle.trail.specs.History.{home}
-use Rattle.trail.specs.Calls.{given_back, held_after_note, newest_of}
+use Rattle.trail.specs.Dirt.{log_end, log_end_after}
+use Rattle.trail.specs.Calls.{given_back, held_after_kind, held_after_note, newest_of}
 use Rattle.desk.specs.declared.calls.Granted.{Granted}
+use Rattle.desk.specs.declared.calls.PutDone.{PutDone}
 use Rattle.desk.specs.State.{State}
+use Rattle.desk.specs.Base.{Opened}
+use Rattle.desk.specs.Behind.{IsBehind}
+use Rattle.desk.specs.Changes.{IsPutBy, IsSpentBy}
 use Rattle.desk.specs.Steps.{IsHit, IsMiss, IsAppended, next_entry}
 use Rattle.script_run.specs.Work.{Senses, Working, AreHoused, Along, answered, noted}
 use Rattle.script_run.proofs.Fixes.{one_page, split_at, reverse_around}
-use Rattle.script_run.proofs.Values.{Leaves, fix_leaves, refused_leaves}
+use Rattle.script_run.proofs.Values.{Leaves, fix_leaves, put_leaves, refused_leaves}
 use Rattle.script_run.proofs.Growing.{me, same}
 
 abbrev entry_of : ℕ → ℕ → ℕ → Kind → Entry
@@ -52,11 +59,59 @@ fewer_back n [] = omega arith
 fewer_back n (x ∷ held) = fewer_test (nat_eq x.number n) x held (given_back n held) (fewer_back n held)
 
 same_here : {D : Type 0} (sense : Senses D) (d : D) → same sense d d
-same_here sense d = record { sizes = refl; bytes = λ p. refl; spaces_are = λ s. refl; later = omega arith }
+same_here sense d = record { sizes = refl; telling = refl; bytes = λ p. refl; spaces_are = λ s. refl; later = omega arith }
 
-pub along_hit : {D : Type 0} (sense : Senses D) (old new : State D) (w : Working) (p : PageId) (now : ℕ) (g : Granted)
-    → IsHit old new (me w) p now g → same sense old.disk new.disk → Along sense 1 old new w (answered w (kind.Fix p g.frame g.clock now))
-along_hit sense old new w p now g hit disk =
+same_more : {D : Type 0} (sense : Senses D) (a b c : D) → same sense a b → same sense b c → same sense a c
+same_more sense a b c f g = record {
+  sizes = g.sizes ∙ f.sizes;
+  telling = g.telling ∙ f.telling;
+  bytes = λ p. g.bytes p ∙ f.bytes p;
+  spaces_are = λ s. g.spaces_are s ∙ f.spaces_are s;
+  later = omega (arith, f.later, g.later);
+}
+
+nil_behind : (xs : List ℕ) → xs ≡ xs ++ []
+nil_behind [] = refl
+nil_behind (x ∷ xs) = ap (λ t. x ∷ t) (nil_behind xs)
+
+grows_here : (bytes : Option (List ℕ)) → Grows bytes bytes
+grows_here None = refl
+grows_here (Some bytes) = ([], nil_behind bytes)
+
+grows_more : (a b c : Option (List ℕ)) → Grows a b → Grows b c → Grows a c
+grows_more None None None f g = refl
+grows_more None None (Some c) f g = absurd (cc)
+grows_more None (Some b) c f g = absurd (cc)
+grows_more (Some a) None c f g = absurd f
+grows_more (Some a) (Some b) None f g = absurd g
+grows_more (Some a) (Some b) (Some c) f g = (f.0 ++ g.0, g.1 ∙ ap (λ t. t ++ g.0) f.1 ∙ append_assoc a f.0 g.0)
+
+pub later_here : (log : Seen) → IsLater log log
+later_here log = record { first = refl; opened = refl; durable = omega arith; end = omega arith; faults = omega arith; bytes = grows_here log.bytes }
+
+pub later_more : (a b c : Seen) → IsLater a b → IsLater b c → IsLater a c
+later_more a b c f g = record {
+  first = g.first ∙ f.first;
+  opened = g.opened ∙ f.opened;
+  durable = omega (arith, f.durable, g.durable);
+  end = omega (arith, f.end, g.end);
+  faults = omega (arith, f.faults, g.faults);
+  bytes = grows_more a.bytes b.bytes c.bytes f.bytes g.bytes;
+}
+
+-- what each call of the desk keeps
+abbrev pub Keeps : {D : Type 0} → Senses D → State D → State D → Type 0
+Keeps sense old new = (o : Opened) → IsBehind sense.tells sense.told sense.spaces o old → IsBehind sense.tells sense.told sense.spaces o new
+
+known_here : (old new : List Entry) (e : Entry) (log : Seen) → new ≡ e ∷ old → ((last : ℕ) → log_end_after e.kind last ≡ last) → log_end old ≤ log.end → log_end new ≤ log.end
+known_here old new e log grown leaves known =
+    let L : List Entry → Type 0 = λ h. log_end h ≤ log.end in
+    let N : ℕ → Type 0 = λ n. n ≤ log.end in
+    subst L (sym grown) (subst N (sym (leaves (log_end old))) known)
+
+pub along_hit : {D : Type 0} (sense : Senses D) (old new : State D) (log : Seen) (w : Working) (p : PageId) (now : ℕ) (g : Granted)
+    → IsHit old new (me w) p now g → same sense old.disk new.disk → Keeps sense old new → Along sense 1 old new log log w (answered w (kind.Fix p g.frame g.clock now))
+along_hit sense old new log w p now g hit disk behind =
     let k = kind.Fix p g.frame g.clock now in
     let H : List Entry → Type 0 = λ h. AreHoused h (answered w k).fixed in
     record {
@@ -67,11 +122,14 @@ along_hit sense old new w p now g hit disk =
       fewer = omega arith;
       housed = λ was. subst H (sym hit.entry.history) (hit.resident, housed_quiet old.history (next_entry old (me w) k) w.fixed (fix_leaves p g.frame g.clock now) was);
       disk = disk;
+      behind = behind;
+      log = later_here log;
+      known = known_here old.history new.history (next_entry old (me w) k) log hit.entry.history (λ n. refl);
     }
 
-pub along_miss : {D : Type 0} (sense : Senses D) (old new : State D) (w : Working) (p : PageId) (now : ℕ) (g : Granted)
-    → IsMiss sense.told old new (me w) p now g → same sense old.disk new.disk → Along sense 1 old new w (answered w (kind.Fix p g.frame g.clock now))
-along_miss sense old new w p now g miss disk =
+pub along_miss : {D : Type 0} (sense : Senses D) (old new : State D) (log : Seen) (w : Working) (p : PageId) (now : ℕ) (g : Granted)
+    → IsMiss sense.told old new (me w) p now g → same sense old.disk new.disk → Keeps sense old new → Along sense 1 old new log log w (answered w (kind.Fix p g.frame g.clock now))
+along_miss sense old new log w p now g miss disk behind =
     let k = kind.Fix p g.frame g.clock now in
     let load : Entry = next_entry old (me w) (kind.Load p g.frame) in
     let H : List Entry → Type 0 = λ h. AreHoused h (answered w k).fixed in
@@ -86,26 +144,59 @@ along_miss sense old new w p now g miss disk =
           let mid : AreHoused miss.mid.history w.fixed = subst M (sym miss.loaded.history) (housed_load old.history load.place load.caller load.number p g.frame w.fixed miss.loaded.absent was) in
           subst H (sym miss.hit.entry.history) (miss.hit.resident, housed_quiet miss.mid.history (next_entry miss.mid (me w) k) w.fixed (fix_leaves p g.frame g.clock now) mid);
       disk = disk;
+      behind = behind;
+      log = later_here log;
+      known = λ was. known_here miss.mid.history new.history (next_entry miss.mid (me w) k) log miss.hit.entry.history (λ n. refl)
+          (known_here old.history miss.mid.history load log miss.loaded.history (λ n. refl) was);
     }
 
-pub along_refused : {D : Type 0} (sense : Senses D) (old new : State D) (w : Working) (p : PageId) (now : ℕ) (why : Cause)
-    → IsAppended old new (me w) (kind.Refused (call.Fix p now) why) → same sense old.disk new.disk → Along sense 1 old new w (answered w (kind.Refused (call.Fix p now) why))
-along_refused sense old new w p now why entry disk =
-    let k = kind.Refused (call.Fix p now) why in
-    let H : List Entry → Type 0 = λ h. AreHoused h w.fixed in
+-- an entry that leaves every home and every fix
+along_entry : {D : Type 0} (sense : Senses D) (old new : State D) (was is : Seen) (w : Working) (k : Kind)
+    → new.config ≡ old.config → new.history ≡ next_entry old (me w) k ∷ old.history → Leaves k → held_after_kind w.next k w.fixed ≡ w.fixed
+    → same sense old.disk new.disk → Keeps sense old new → IsLater was is → (log_end old.history ≤ was.end → log_end new.history ≤ is.end)
+    → Along sense 1 old new was is w (answered w k)
+along_entry sense old new was is w k config history leaves kept disk behind later known =
+    let H : List Entry → Type 0 = λ h. AreHoused h (answered w k).fixed in
+    let F : List Held → Type 0 = λ held. AreHoused (next_entry old (me w) k ∷ old.history) held in
     record {
-      config = entry.config;
-      grown = omega (arith, ap (length {A = Entry}) entry.history);
+      config = config;
+      grown = omega (arith, ap (length {A = Entry}) history);
       pass = refl;
       next = refl;
-      fewer = omega arith;
-      housed = λ was. subst H (sym entry.history) (housed_quiet old.history (next_entry old (me w) k) w.fixed (refused_leaves (call.Fix p now) why) was);
+      fewer = omega (arith, ap (length {A = Held}) kept);
+      housed = λ was. subst H (sym history) (subst F (sym kept) (housed_quiet old.history (next_entry old (me w) k) w.fixed leaves was));
       disk = disk;
+      behind = behind;
+      log = later;
+      known = known;
     }
 
+pub along_refused : {D : Type 0} (sense : Senses D) (old new : State D) (log : Seen) (w : Working) (p : PageId) (now : ℕ) (why : Cause)
+    → IsAppended old new (me w) (kind.Refused (call.Fix p now) why) → same sense old.disk new.disk → Keeps sense old new → Along sense 1 old new log log w (answered w (kind.Refused (call.Fix p now) why))
+along_refused sense old new log w p now why entry disk behind =
+    let k = kind.Refused (call.Fix p now) why in
+    along_entry sense old new log log w k entry.config entry.history (refused_leaves (call.Fix p now) why) refl disk behind (later_here log)
+    (known_here old.history new.history (next_entry old (me w) k) log entry.history (λ n. refl))
+
+pub along_put : {D : Type 0} (sense : Senses D) (old new : State D) (was is : Seen) (w : Working) (p : PageId) (at : ℕ) (bytes : List ℕ) (done : PutDone)
+    → (by : IsPutBy old new (me w) p at bytes done) → Keeps sense old new → IsLater was is → log_end new.history ≤ is.end
+    → Along sense 1 old new was is w (answered w (kind.Put p at bytes by.start done.lsn))
+along_put {D} sense old new was is w p at bytes done by behind later known =
+    let S : D → Type 0 = λ d. same sense old.disk d in
+    along_entry sense old new was is w (kind.Put p at bytes by.start done.lsn) by.config by.history (put_leaves p at bytes by.start done.lsn) refl
+    (subst S (sym by.disk) (same_here sense old.disk)) behind later (λ was. known)
+
+pub along_spent : {D : Type 0} (sense : Senses D) (old new : State D) (was is : Seen) (w : Working) (p : PageId) (at : ℕ) (bytes : List ℕ) (end : ℕ)
+    → IsSpentBy old new (me w) p at bytes was.end is.end end → Keeps sense old new → IsLater was is → log_end new.history ≤ is.end
+    → Along sense 1 old new was is w (answered w (kind.Refused (call.Put p at bytes) (cause.LogSpent end)))
+along_spent {D} sense old new was is w p at bytes end spent behind later known =
+    let S : D → Type 0 = λ d. same sense old.disk d in
+    along_entry sense old new was is w (kind.Refused (call.Put p at bytes) (cause.LogSpent end)) spent.entry.config spent.entry.history (refused_leaves (call.Put p at bytes) (cause.LogSpent end)) refl
+    (subst S (sym spent.disk) (same_here sense old.disk)) behind later (λ was. known)
+
 -- a receipt that gives no fix back, or the fix that its call got
-pub along_kept : {D : Type 0} (sense : Senses D) (desk : State D) (w : Working) (n : Note) → held_after_note w.next n w.fixed ≡ w.fixed → Along sense 1 desk desk w (noted desk w n)
-along_kept sense desk w n kept =
+pub along_kept : {D : Type 0} (sense : Senses D) (desk : State D) (log : Seen) (w : Working) (n : Note) → held_after_note w.next n w.fixed ≡ w.fixed → Along sense 1 desk desk log log w (noted desk w n)
+along_kept sense desk log w n kept =
     let H : List Held → Type 0 = λ held. AreHoused desk.history held in
     record {
       config = refl;
@@ -115,25 +206,37 @@ along_kept sense desk w n kept =
       fewer = omega (arith, ap (length {A = Held}) kept);
       housed = λ was. subst H (sym kept) was;
       disk = same_here sense desk.disk;
+      behind = λ o was. was;
+      log = later_here log;
+      known = λ was. was;
     }
 
-pub along_none : {D : Type 0} (sense : Senses D) (desk : State D) (w : Working) → Along sense 0 desk desk w w
-along_none sense desk w = record { config = refl; grown = omega arith; pass = refl; next = omega arith; fewer = omega arith; housed = λ was. was; disk = same_here sense desk.disk }
+pub along_none : {D : Type 0} (sense : Senses D) (desk : State D) (log : Seen) (w : Working) → Along sense 0 desk desk log log w w
+along_none sense desk log w = record {
+  config = refl;
+  grown = omega arith;
+  pass = refl;
+  next = omega arith;
+  fewer = omega arith;
+  housed = λ was. was;
+  disk = same_here sense desk.disk;
+  behind = λ o was. was;
+  log = later_here log;
+  known = λ was. was;
+}
 
-pub along_more : {D : Type 0} (sense : Senses D) (n : ℕ) (old mid new : State D) (w u v : Working) → Along sense n old mid w u → Along sense 1 mid new u v → Along sense (n + 1) old new w v
-along_more sense n old mid new w u v a b = record {
+pub along_more : {D : Type 0} (sense : Senses D) (n : ℕ) (old mid new : State D) (was then is : Seen) (w u v : Working) → Along sense n old mid was then w u → Along sense 1 mid new then is u v → Along sense (n + 1) old new was is w v
+along_more sense n old mid new was then is w u v a b = record {
   config = b.config ∙ a.config;
   grown = omega (arith, a.grown, b.grown);
   pass = b.pass ∙ a.pass;
   next = omega (arith, a.next, b.next);
   fewer = omega (arith, a.fewer, b.fewer);
   housed = λ was. b.housed (a.housed was);
-  disk = record {
-    sizes = b.disk.sizes ∙ a.disk.sizes;
-    bytes = λ p. b.disk.bytes p ∙ a.disk.bytes p;
-    spaces_are = λ s. b.disk.spaces_are s ∙ a.disk.spaces_are s;
-    later = omega (arith, a.disk.later, b.disk.later);
-  };
+  disk = same_more sense old.disk mid.disk new.disk a.disk b.disk;
+  behind = λ o was. b.behind o (a.behind o was);
+  log = later_more was then is a.log b.log;
+  known = λ was. b.known (a.known was);
 }
 
 newest_test : (b : Bool) (h : List Entry) (x : Held) (held : List Held) (p : PageId) → same_page x.page p ≡ b → IsSome (cond b (Some x) (newest_of held p)) → home h x.page ≡ Some x.frame
@@ -158,10 +261,10 @@ fewer_mid [] x ys = omega arith
 fewer_mid (y ∷ xs) x ys = omega (arith, fewer_mid xs x ys)
 
 -- one fix less
-pub along_removed : {D : Type 0} (sense : Senses D) (desk : State D) (w v : Working) (items left : List Held) (i : ℕ) (h : Held)
+pub along_removed : {D : Type 0} (sense : Senses D) (desk : State D) (log : Seen) (w v : Working) (items left : List Held) (i : ℕ) (h : Held)
     → w.fixed ≡ reverse items → v.fixed ≡ reverse left → left ≡ take i items ++ drop (suc i) items → slice_get items i ≡ Some h → v.pass ≡ w.pass → v.next ≡ w.next + 1
-    → Along sense 1 desk desk w v
-along_removed sense desk w v items left i h old new is here pass next =
+    → Along sense 1 desk desk log log w v
+along_removed sense desk log w v items left i h old new is here pass next =
     let parts : w.fixed ≡ reverse (drop (suc i) items) ++ h ∷ reverse (take i items) = old ∙ ap reverse (split_at items i h here) ∙ reverse_around (take i items) h (drop (suc i) items) in
     let now : v.fixed ≡ reverse (drop (suc i) items) ++ reverse (take i items) = new ∙ ap reverse is ∙ reverse-append (take i items) (drop (suc i) items) in
     let less = fewer_mid (reverse (drop (suc i) items)) h (reverse (take i items)) in
@@ -174,4 +277,7 @@ along_removed sense desk w v items left i h old new is here pass next =
       fewer = omega (arith, less, ap (length {A = Held}) parts, ap (length {A = Held}) now);
       housed = λ was. subst H (sym now) (housed_mid desk.history (reverse (drop (suc i) items)) h (reverse (take i items)) (subst H parts was));
       disk = same_here sense desk.disk;
+      behind = λ o was. was;
+      log = later_here log;
+      known = λ was. was;
     }

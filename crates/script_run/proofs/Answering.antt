@@ -1,16 +1,23 @@
 -- How the parts of a run make its answer.
-use Rattle.std.proofs.Common.{◌≡◌, ◌≢◌, ◌≤◌, ◌<◌, ℕ, Bool, true, false, ◌||◌, List, [], ◌∷◌, ◌++◌, ◌⊎◌, inl, inr, Option, Some, None, IfSome, length, refl, ap, ◌∙◌, sym, subst, arith, length-append}
+use Rattle.std.proofs.Common.{◌≡◌, ◌≢◌, ◌≤◌, ◌<◌, ◌+◌, ◌^◌, ℕ, Bool, true, false, ◌||◌, List, [], ◌++◌, ◌⊎◌, inl, inr, Option, Some, None, IfSome, IsSomeAnd, length, refl, ap, ◌∙◌, sym, subst, arith, length-append, reverse}
 use Rattle.std.specs.Prelude.{unwrap_or, IsSome}
+use Rattle.page_ids.specs.Content.{Content}
+use Rattle.page_ids.specs.Size.{page_bytes}
 use Rattle.page_ids.specs.declared.ids.PageId.{PageId}
 use Rattle.page_disk.specs.Disks.{pages_in}
 use Rattle.page_disk.specs.declared.shelf.FaultAt.{FaultAt}
+use Rattle.redo_mark.specs.Device.{Told}
+use Rattle.redo_mark.specs.declared.redo.RedoEnd.{RedoEnd}
 use Rattle.trail.specs.Events.{Events}
+use Rattle.trail.specs.History.{value}
+use Rattle.trail.specs.Places.{entries}
+use Rattle.trail.specs.Saved.{is_written, saved}
+use Rattle.desk.specs.Base.{IsBase}
 use Rattle.script_text.specs.Plan.{Plan}
 use Rattle.script_text.specs.Verdict.{IsScript, IsBad}
-use Rattle.script_run.specs.Openings.{IsBase}
 use Rattle.script_run.specs.Work.{Senses}
-use Rattle.script_run.specs.Runs.{IsTrailOf, IsEndedRun, closing_of}
-use Rattle.script_run.proofs.Growing.{same, on_some}
+use Rattle.script_run.specs.Runs.{Handed, handed, start_of, Reports, IsEndedRun, IsLogOf, IsLongLog, IsSavedPage, IsValuedPage}
+use Rattle.script_run.proofs.Growing.{on_some}
 use Rattle.script_run.proofs.Progress.{append_nil}
 use Rattle.script_run.proofs.Values.{faults_wider}
 
@@ -22,26 +29,44 @@ low_end : (handed : Option ℕ) (count : ℕ) → IfSome handed (λ n. count ≡
 low_end None count is = omega arith
 low_end (Some n) count is = omega (arith, is)
 
--- what a disk tells, told by its shelf
-pub ended_run : {D : Type 0} (sense : Senses D) (told : PageId → Option (List ℕ)) (has : Option (ℕ → Option ℕ)) (handed : Option ℕ) (plan : Plan) (disk last : D) (fault : Option FaultAt) (trail : Events) (trails : List Events) (disks : List D)
-    → IsTrailOf (sense.told disk) (Some (sense.faults disk)) sense.spaces sense.faults plan last (closing_of fault) trail
-    → ((p : PageId) → sense.told disk p ≡ told p) → IfSome has (λ known. (s : ℕ) → sense.spaces disk s ≡ known s) → IfSome handed (λ n. sense.faults disk ≡ n) → same sense disk last
-    → trails ≡ trail ∷ [] → disks ≡ last ∷ [] → IsEndedRun told has handed sense.told sense.spaces sense.faults plan fault trails disks
-ended_run sense told has handed plan disk last fault trail trails disks is tells spaces faults kept one_trail one_disk = record {
-  trail = trail;
-  disk = last;
-  trails_are = one_trail;
-  disks_are = one_disk;
-  trail_is = record {
-    run = λ base based. is.run base (on_some base (λ first. IsBase told (pages_in (sense.spaces last)) first) (λ first. IsBase (sense.told disk) (pages_in (sense.spaces last)) first)
-        (λ first here is_base p inside. let given = is_base p inside in record { bytes = given.bytes; tells = tells p ∙ given.tells; content = given.content }) based);
-    faults_are = faults_wider (unwrap_or handed 0) (sense.faults disk) (sense.faults last) (sense.faults last) _ (low_end handed (sense.faults disk) faults) (omega arith) is.faults_are;
-  };
-  disk_is = record {
-    pages = λ p. kept.bytes p ∙ tells p;
-    spaces_are = on_some has (λ known. (s : ℕ) → sense.spaces disk s ≡ known s) (λ known. (s : ℕ) → sense.spaces last s ≡ known s) (λ known here is s. kept.spaces_are s ∙ is s) spaces;
-  };
-}
+told_base : (told was : PageId → Option (List ℕ)) (pages : ℕ → ℕ) (first : PageId → Option Content) → ((p : PageId) → told p ≡ was p) → IsBase was pages first → IsBase told pages first
+told_base told was pages first same is_base p inside = let given = is_base p inside in record { bytes = given.bytes; tells = same p ∙ given.tells; content = given.content }
+
+-- the run of what a shelf handed out, told by the shelf
+pub ended_run : {D R : Type 0} (sense : Senses D) (report : Reports R) (shelf : Handed) (disk : D) (log : R) (plan : Plan) (fault : Option FaultAt) (trails : List Events) (disks : List D) (redo : Option (RedoEnd R))
+    → IsEndedRun (handed (sense.told disk) (Some (sense.spaces disk)) (Some (sense.faults disk)) (report.told log) (Some (report.faults log))) sense report plan fault trails disks redo
+    → ((p : PageId) → sense.told disk p ≡ shelf.told p) → IfSome shelf.spaces (λ known. (s : ℕ) → sense.spaces disk s ≡ known s) → IfSome shelf.disk_faults (λ n. sense.faults disk ≡ n)
+    → report.told log ≡ shelf.log → IfSome shelf.log_faults (λ n. report.faults log ≡ n)
+    → IsEndedRun shelf sense report plan fault trails disks redo
+ended_run {D} {R} sense report shelf disk log plan fault trails disks redo is tells spaces faults log_is log_faults =
+    let W : Option Told → Type 0 = λ t. IsLogOf plan.config.lsn t report is.end fault (entries (reverse is.trail.events)) in
+    record {
+      trail = is.trail;
+      disk = is.disk;
+      end = is.end;
+      trails_are = is.trails_are;
+      disks_are = is.disks_are;
+      log_is = is.log_is;
+      run = λ base based. is.run base (on_some base _ _ (λ first e is_base. told_base (sense.told disk) shelf.told (pages_in (sense.spaces is.disk)) first tells is_base) based);
+      faults = faults_wider (start_of shelf) (record { told = sense.told disk; disk_faults = sense.faults disk; log_faults = report.faults log }) (sense.faults is.disk) (report.faults is.end.disk) (sense.faults is.disk) (report.faults is.end.disk) _
+          (record { disk = low_end shelf.disk_faults (sense.faults disk) faults; log = low_end shelf.log_faults (report.faults log) log_faults }) (omega arith) (omega arith) is.faults;
+      spaces_are = on_some shelf.spaces _ _ (λ known e here s. is.spaces_are s ∙ here s) spaces;
+      holds = λ base is_base.
+          let held = is.holds base (told_base (sense.told disk) shelf.told (pages_in (sense.spaces is.disk)) base tells is_base) in
+          let h = entries (reverse is.trail.events) in
+          let size = page_bytes plan.config.page in
+          record {
+            saved = λ p inside. on_some (sense.told is.disk p) _ _ (λ bytes e page. let P : Option (List ℕ) → Type 0 = λ t. IsSavedPage (is_written h p) t (saved size base h p) p bytes in subst P (tells p) page) (held.saved p inside);
+            whole = λ fine p inside. on_some (sense.told is.disk p) _ _ (λ bytes e page. let P : Option (List ℕ) → Type 0 = λ t. IsValuedPage t (value size base h p) p bytes in subst P (tells p) page) (held.whole fine p inside);
+          };
+      logs = subst W log_is is.logs;
+    }
+
+-- a log that is too long was handed back
+pub long_log : {R : Type 0} (left : Option (List ℕ)) (line : ℕ) (log : Option (RedoEnd R)) (plan : Plan) → ((bytes : List ℕ) → left ≡ Some bytes → IsScript bytes plan) → line ≡ 0
+    → IsSomeAnd log (λ r. (r.durable ≡ r.end) × (2 ^ 63 < plan.config.lsn + r.end)) → IsLongLog left line log
+long_log left line None plan script whole is = absurd is
+long_log left line (Some end) plan script whole is = record { plan = plan; script = script; end = end; log_is = refl; whole = whole; opened = is.0; beyond = is.1 }
 
 -- a text that was written in part
 pub cut_text : (held after : List ℕ) (n : ℕ) (text : List ℕ) → after ≡ text → text ≡ text ++ []

@@ -1,46 +1,55 @@
--- A worker that is done, with the runner's closing entry, makes the trail of a run.
-use Rattle.std.proofs.Common.{◌≡◌, ℕ, Bool, true, false, cond, List, [], ◌∷◌, ◌++◌, ◌+◌, ◌≤◌, ◌&&◌, inl, Option, Some, None, IfSome, refl, ap, ◌∙◌, sym, subst, nat_eq, eq-eqb, filter, reverse, arith}
+-- A worker that is done, with the runner's writes and its closing entry, makes the trail of a run.
+use Rattle.std.proofs.Common.{◌≡◌, ℕ, Bool, true, false, cond, List, [], ◌∷◌, ◌++◌, ◌+◌, ◌≤◌, ◌&&◌, Option, Some, None, IfSome, length, drop, refl, ap, ◌∙◌, sym, subst, nat_eq, eq-eqb, filter, reverse, arith}
 use Rattle.std.proofs.lemmas.Bool.Decides.{nat_tests}
 use Rattle.std.proofs.lemmas.List.{reverse-append, reverse-reverse}
 use Rattle.std.proofs.lemmas.List.Elements.{filter-append}
 use Rattle.std.specs.Prelude.{unwrap_or}
 use Rattle.page_ids.specs.Content.{Content}
+use Rattle.page_ids.specs.Faults.{Rose}
 use Rattle.page_ids.specs.declared.ids.PageId.{PageId}
 use Rattle.page_ids.specs.declared.config.Config.{Config}
 use Rattle.page_disk.specs.Disks.{pages_in}
 use Rattle.page_disk.specs.declared.shelf.FaultAt.{FaultAt}
+use Rattle.redo_mark.specs.Logs.{Seen}
+use Rattle.trail.specs.declared.event.Call.TheVariants as call
 use Rattle.trail.specs.declared.event.Entry.{Entry}
 use Rattle.trail.specs.declared.event.Receipt.{Receipt}
 use Rattle.trail.specs.declared.event.Kind.{Kind}
+use Rattle.trail.specs.declared.event.Kind.TheVariants as kind
 use Rattle.trail.specs.declared.event.Event.{Event}
 use Rattle.trail.specs.declared.event.Event.TheVariants as event
 use Rattle.trail.specs.Events.{Events}
 use Rattle.trail.specs.Places.{mark, entries, receipts, AreNumbered, AreWithin}
-use Rattle.trail.specs.History.{home, disk_faults}
+use Rattle.trail.specs.History.{disk_faults, log_faults}
+use Rattle.trail.specs.Dirt.{dirty}
 use Rattle.trail.specs.Calls.{caller_of, is_answer, kind_answers, next_number, under_way}
 use Rattle.trail.specs.Opening.{Opening}
-use Rattle.trail.specs.Legal.{MayPrecede, IsLegalKind}
+use Rattle.trail.specs.Legal.{MayPrecede, AreWrites, IsLegalKind, pages_of}
+use Rattle.trail.specs.Covered.{IsCoveredKind}
 use Rattle.trail.specs.Causes.{IsCausedKind}
 use Rattle.trail.specs.Laws.{IsLawful, IsGood, IsStillKind}
 use Rattle.trail.specs.Promises.{IsPromisedKind, ArePromised}
 use Rattle.trail.specs.Merging.{merged, AllWithin, IsPlaced}
 use Rattle.desk.specs.State.{State}
-use Rattle.desk.specs.Steps.{IsFresh, next_entry}
+use Rattle.desk.specs.Steps.{IsFresh}
+use Rattle.desk.specs.Logged.{IsLogged}
+use Rattle.desk.specs.Changes.{WritesBack, entry_behind}
 use Rattle.script_text.specs.declared.script.Command.{Command}
 use Rattle.script_run.specs.Todo.{Todo, answers_of}
-use Rattle.script_run.specs.Openings.{IsBase, opening_of, IsKindWithin, AreFaultsWithin}
+use Rattle.script_run.specs.Openings.{Start, opening_of, IsKindWithin, AreFaultsWithin}
 use Rattle.script_run.specs.Work.{Senses, Working, SoFar, Worked, AreOf}
-use Rattle.script_run.specs.Runs.{IsRunOf, IsClosed, IsFlushFault, AreOurs, closing_of}
+use Rattle.script_run.specs.Runs.{IsRunOf, IsClosed, IsFlushedWith, RoseSo, AreOurs, closing_of, fault_cause}
+use Rattle.script_run.proofs.Flushing.{FrontLeaves, Flushed, flushed, runner}
 use Rattle.script_run.proofs.Progress.{append_nil}
 use Rattle.script_run.proofs.Values.{faults_up}
 
 -- before the first call
-pub so_far_new : {D : Type 0} (sense : Senses D) (config : Config) (base : Option (PageId → Option Content)) (spaces : ℕ → Option ℕ) (desk : State D) (w : Working) (pass : ℕ) (disk : D)
-    → IsFresh desk config 0 disk → w ≡ record { pass = pass; next = 1; fixed = []; account = [] } → ((s : ℕ) → spaces s ≡ sense.spaces disk s) → IfSome base (λ first. IsBase (sense.told disk) (pages_in spaces) first)
-    → SoFar sense (opening_of config base spaces) (sense.faults disk) desk w [] []
-so_far_new {D} sense config base spaces desk w pass disk fresh new same based =
-    let W : Working → Type 0 = λ x. SoFar sense (opening_of config base spaces) (sense.faults disk) desk x [] [] in
-    let B : D → Type 0 = λ d. IfSome base (λ first. IsBase (sense.told d) (pages_in spaces) first) in
+pub so_far_new : {D : Type 0} (sense : Senses D) (config : Config) (base : Option (PageId → Option Content)) (spaces : ℕ → Option ℕ) (start : Start) (desk : State D) (log : Seen) (w : Working) (pass : ℕ) (disk : D)
+    → IsFresh desk config 0 disk → w ≡ record { pass = pass; next = 1; fixed = []; account = [] } → ((s : ℕ) → spaces s ≡ sense.spaces disk s)
+    → start.disk_faults ≤ sense.faults disk → start.log_faults ≤ log.faults
+    → SoFar sense (opening_of config base spaces) start desk log w [] []
+so_far_new {D} sense config base spaces start desk log w pass disk fresh new same disk_low log_low =
+    let W : Working → Type 0 = λ x. SoFar sense (opening_of config base spaces) start desk log x [] [] in
     let none : desk.history ≡ [] = fresh.history in
     subst W (sym new) (record {
       good = tt;
@@ -50,21 +59,18 @@ so_far_new {D} sense config base spaces desk w pass disk fresh new same based =
       first_is = ap (λ c. c.first) fresh.config_is;
       config_is = fresh.config_is;
       pages_are = λ s. ap (λ n. unwrap_or n 0) (same s) ∙ ap (λ d. pages_in (sense.spaces d) s) (sym fresh.disk_is);
-      based = subst B (sym fresh.disk_is) based;
-      values = no_values base (λ first p f here. let bad : None ≡ Some f = sym (ap (λ h. home h p) none) ∙ here in absurd (cc));
-      faults = let F : List Entry → Type 0 = λ h. AreFaultsWithin (sense.faults disk) (sense.faults desk.disk) h in subst F (sym none) tt;
+      logged = let I : List Entry → Type 0 = λ h. IsLogged log h in subst I (sym none) tt;
+      faults = let F : List Entry → Type 0 = λ h. AreFaultsWithin start (sense.faults desk.disk) log.faults h in subst F (sym none) tt;
       last_fault = let L : List Entry → Type 0 = λ h. disk_faults h ≤ sense.faults desk.disk in subst L (sym none) (omega arith);
-      low_is = let L : D → Type 0 = λ d. sense.faults disk ≤ sense.faults d in subst L (sym fresh.disk_is) (omega arith);
+      last_log_fault = let L : List Entry → Type 0 = λ h. log_faults h ≤ log.faults in subst L (sym none) (omega arith);
+      low_is = let L : D → Type 0 = λ d. start.disk_faults ≤ sense.faults d in subst L (sym fresh.disk_is) disk_low;
+      low_log = log_low;
       number = refl;
       calls = refl;
       held = refl;
       falling = tt;
       alone = tt;
     })
-  where
-    no_values : (v : Option (PageId → Option Content)) {P : (PageId → Option Content) → Type 0} → ((first : PageId → Option Content) → P first) → IfSome v P
-    no_values None f = tt
-    no_values (Some first) f = f first
 
 number_is : (m n : ℕ) → nat_eq m n ≡ true → m ≡ n
 number_is m n h = grind (arith, nat_tests)
@@ -123,35 +129,71 @@ ours : (past : List Event) → AreOf 1 past → AreOurs past
 ours [] of = tt
 ours (e ∷ past) of = (omega (arith, of.0), ours past of.1)
 
-closing_call : (past : List Event) (k c : ℕ) (e : Entry) → kind_answers e.kind ≡ true → AreOf k past → under_way past k ≡ [] → under_way (event.Entry e ∷ past) c ≡ []
-closing_call past k c e answers of own = pick (nat_eq e.caller c) (kind_answers e.kind) (e.kind ∷ under_way past c) (under_way past c) answers (calls_all past k c of own)
+closing_call : (past : List Event) (c : ℕ) (e : Entry) → kind_answers e.kind ≡ true → e.caller ≡ 0 → ((d : ℕ) → nat_eq 0 d ≡ false → under_way past d ≡ []) → under_way (event.Entry e ∷ past) c ≡ []
+closing_call past c e answers runs others = cases (nat_eq 0 c) refl
   where
-    pick : (a b : Bool) (x y : List Kind) → b ≡ true → y ≡ [] → cond a (cond b [] x) y ≡ []
-    pick true true x y f e = refl
-    pick true false x y f e = absurd (cc)
-    pick false b x y f e = e
+    pick : (b : Bool) (x y : List Kind) → b ≡ true → cond (nat_eq e.caller c) (cond b [] x) y ≡ cond (nat_eq e.caller c) [] y
+    pick true x y t = refl
+    pick false x y f = absurd (cc)
 
--- what the runner's closing entry is
-record Closes (low was is last : ℕ) (o : Opening) (past : List Event) (k : Kind) : Type 0 where
+    cases : (b : Bool) → nat_eq 0 c ≡ b → under_way (event.Entry e ∷ past) c ≡ []
+    cases true t = pick (kind_answers e.kind) (e.kind ∷ under_way past c) (under_way past c) answers ∙ ap (λ (b : Bool). cond b [] (under_way past c)) (ap (λ n. nat_eq n c) runs ∙ t)
+    cases false t = pick (kind_answers e.kind) (e.kind ∷ under_way past c) (under_way past c) answers ∙ ap (λ (b : Bool). cond b [] (under_way past c)) (ap (λ n. nat_eq n c) runs ∙ t) ∙ others c t
+
+-- what the runner's closing entry is, behind its writes
+record Closes (start : Start) (disk log : ℕ) (o : Opening) (past : List Event) (k : Kind) : Type 0 where
   answers : kind_answers k ≡ true
-  before : (made : List Kind) → made ≡ [] → MayPrecede made k
-  legal : IsLegalKind o past k
+  before : (made : List Kind) → AreWrites made → MayPrecede made k
+  legal : IsLegalKind o past 0 k
   still : IsStillKind past k
+  covered : IsCoveredKind (entries past) k
   causes : IsCausedKind o past 0 k
   promised : IsPromisedKind o past 0 k
-  within : IsKindWithin low is k
+  within : IsKindWithin start disk log k
 
-closes : (low was is : ℕ) (o : Opening) (past : List Event) (fault : Option FaultAt) → low ≤ was → disk_faults (entries past) ≤ was → IfSome fault (λ f. IsFlushFault was is f) → Closes low was is was o past (closing_of fault)
-closes low was is o past None low_is last flush = record { answers = refl; before = λ made e. e; legal = (refl, refl); still = tt; causes = refl; promised = tt; within = tt }
-closes low was is o past (Some f) low_is last flush = record {
+fault_closes : (start : Start) (disk_was disk_is log_was log_is : ℕ) (o : Opening) (past : List Event) (log : Bool) (before after : ℕ) → start.disk_faults ≤ disk_was → start.log_faults ≤ log_was
+    → disk_faults (entries past) ≤ disk_was → log_faults (entries past) ≤ log_was → Rose before after → RoseSo log disk_was disk_is log_was log_is before after
+    → Closes start disk_is log_is o past (kind.Refused (call.Clean 16384) (fault_cause log before after))
+fault_closes start disk_was disk_is log_was log_is o past true before after low low_log last last_log rose counts = record {
   answers = refl;
-  before = λ made e. e;
+  before = λ made are. are;
   legal = tt;
   still = tt;
-  causes = (refl, (flush.counts.rose, omega (arith, last, flush.counts.first)));
+  covered = tt;
+  causes = (refl, (rose, omega (arith, last_log, counts.first)));
   promised = record { own = refl; filed = refl; excused = tt };
-  within = (omega (arith, low_is, flush.counts.first), omega (arith, flush.counts.last));
+  within = (omega (arith, low_log, counts.first), omega (arith, counts.last));
 }
+fault_closes start disk_was disk_is log_was log_is o past false before after low low_log last last_log rose counts = record {
+  answers = refl;
+  before = λ made are. are;
+  legal = tt;
+  still = tt;
+  covered = tt;
+  causes = (refl, (rose, omega (arith, last, counts.first)));
+  promised = record { own = refl; filed = refl; excused = tt };
+  within = (omega (arith, low, counts.first), omega (arith, counts.last));
+}
+
+closes : (start : Start) (disk_was disk_is log_was log_is : ℕ) (o : Opening) (past : List Event) (n : ℕ) (mid : List Entry) (f : Flushed o start disk_is log_is past n mid) (fault : Option FaultAt)
+    → start.disk_faults ≤ disk_was → start.log_faults ≤ log_was → disk_faults (entries past) ≤ disk_was → log_faults (entries past) ≤ log_was
+    → IfSome fault (λ f. IsFlushedWith disk_was disk_is log_was log_is f) → Closes start disk_is log_is o (f.writes ++ past) (closing_of fault n)
+closes start disk_was disk_is log_was log_is o past n mid f None low low_log last last_log flush =
+    let behind : drop (length (under_way (f.writes ++ past) 0)) (entries (f.writes ++ past)) ≡ entries past = ap (λ m. drop m (entries (f.writes ++ past))) f.count ∙ ap (drop n) f.entries_are ∙ f.before in
+    record {
+      answers = refl;
+      before = λ made are. are;
+      legal = record { rest = pages_of (dirty mid); oldest = ap (λ h. pages_of (dirty h)) behind ∙ f.pages; count = sym f.count; none_skipped = refl };
+      still = tt;
+      covered = tt;
+      causes = refl;
+      promised = tt;
+      within = tt;
+    }
+closes start disk_was disk_is log_was log_is o past n mid f (Some fault) low low_log last last_log flush =
+    let at : entries (f.writes ++ past) ≡ mid = f.entries_are in
+    fault_closes start disk_was disk_is log_was log_is o (f.writes ++ past) fault.log fault.before fault.after low low_log
+    (omega (arith, ap disk_faults at, f.last_fault, last)) (omega (arith, ap log_faults at, f.last_log_fault, last_log)) flush.where_is.rose flush.counts
 
 placed : (o : Opening) (past : List Event) → IsGood o past → IsPlaced o.first past
 placed o [] good = tt
@@ -178,66 +220,85 @@ merged_events o past history account events law good es rs merges =
     ∙ ap (λ h. merged o.first h (account ∷ [])) (sym (ap reverse es ∙ reverse-reverse history)) ∙ ap (λ a. merged o.first (reverse (entries past)) (back a)) (sym (ap reverse rs ∙ reverse-reverse account))
     ∙ law.merged_is o.first past is_placed
 
--- what a worker leaves, with the closing entry, is a run
-pub finished : {D : Type 0} (sense : Senses D) (o : Opening) (low : ℕ) (desk new : State D) (w : Working) (commands : List Command) (fault : Option FaultAt) (history : List Entry) (account : List Receipt) (trail : Events)
-    → w.pass ≡ 1 → Worked sense o low desk w [] commands → IsClosed desk new fault → IfSome fault (λ f. IsFlushFault (sense.faults desk.disk) (sense.faults new.disk) f)
+-- what a worker leaves, with the runner's writes and its closing entry, is a run
+pub finished : {D : Type 0} (sense : Senses D) (o : Opening) (start : Start) (desk new : State D) (was is : Seen) (w : Working) (commands : List Command) (fault : Option FaultAt) (history : List Entry) (account : List Receipt) (trail : Events)
+    → FrontLeaves → w.pass ≡ 1 → Worked sense o start desk was w [] commands → (closed : IsClosed desk new fault) → IfSome fault (λ f. IsFlushedWith (sense.faults desk.disk) (sense.faults new.disk) was.faults is.faults f)
     → reverse history ≡ new.history → reverse account ≡ w.account → Merges → trail.first ≡ o.first
     → (AreNumbered o.first (reverse history) → AllWithin (mark o.first (reverse history)) (account ∷ []) → trail.events ≡ merged o.first history (account ∷ []))
-    → sense.faults desk.disk ≤ sense.faults new.disk → IsRunOf o commands (closing_of fault) trail × AreFaultsWithin low (sense.faults new.disk) (entries (reverse trail.events))
-finished {D} sense o low desk new w commands fault history account trail pass done closed flush history_is account_is law first merges later =
-    let k = closing_of fault in
+    → sense.faults desk.disk ≤ sense.faults new.disk → was.faults ≤ is.faults
+    → IsRunOf o commands fault trail × (entries (reverse trail.events) ≡ new.history) × AreFaultsWithin start (sense.faults new.disk) is.faults new.history
+finished {D} sense o start desk new was is w commands fault history account trail front pass done closed flush history_is account_is law first merges later later_log =
+    let n = closed.written in
+    let k = closing_of fault n in
     let more = done.more in
-    let S : List Event → Type 0 = λ past. SoFar sense o low desk w past [] in
+    let S : List Event → Type 0 = λ past. SoFar sense o start desk was w past [] in
     let so = subst S (append_nil more) done.so_far in
     let O : ℕ → Type 0 = λ c. AreOf c more in
     let of : AreOf 1 more = subst O pass so.alone in
     let own : under_way more 1 ≡ [] = ap (under_way more) (sym pass) ∙ so.calls in
     let none : under_way more 0 ≡ [] = calls_all more 1 0 of own in
-    let entry : Entry = next_entry desk (record { pass = 0; number = 1 }) k in
-    let close : Event = event.Entry entry in
+    let disk_is = sense.faults new.disk in
+    let E : List Entry → Type 0 = λ h. AreFaultsWithin start disk_is is.faults h in
+    let faults : AreFaultsWithin start disk_is is.faults (entries more) =
+    subst E (sym so.entries_are) (faults_up start (sense.faults desk.disk) was.faults disk_is is.faults desk.history later later_log so.faults) in
+    let W : ℕ → List Entry → Type 0 = λ m h. WritesBack m runner n h closed.cleaned.mid in
+    let WF : ℕ → Type 0 = λ m. W m desk.history in
+    let writes : WritesBack o.first runner n (entries more) closed.cleaned.mid = subst (W o.first) (sym so.entries_are) (subst WF so.first_is closed.cleaned.writes) in
+    let f = flushed o start disk_is is.faults more n closed.cleaned.mid front so.good so.promised (next_other more 1 0 of refl) none faults writes in
     let L : List Entry → Type 0 = λ h. disk_faults h ≤ sense.faults desk.disk in
-    let c = closes low (sense.faults desk.disk) (sense.faults new.disk) o more fault so.low_is (subst L (sym so.entries_are) so.last_fault) flush in
-    let lawful : IsLawful o more close = record {
+    let G : List Entry → Type 0 = λ h. log_faults h ≤ was.faults in
+    let c = closes start (sense.faults desk.disk) disk_is was.faults is.faults o more n closed.cleaned.mid f fault so.low_is so.low_log
+    (subst L (sym so.entries_are) so.last_fault) (subst G (sym so.entries_are) so.last_log_fault) flush in
+    let entry : Entry = entry_behind desk.config.first closed.cleaned.mid runner k in
+    let close : Event = event.Entry entry in
+    let before : List Event = f.writes ++ more in
+    let lawful : IsLawful o before close = record {
       legal = record {
-        place = ap (λ n. mark n desk.history + 1) so.first_is ∙ ap (λ h. mark o.first h + 1) (sym so.entries_are);
-        number = sym (next_other more 1 0 of refl);
-        together = inl none;
-        before = c.before (under_way more 0) none;
+        place = ap (λ m. mark m closed.cleaned.mid + 1) so.first_is ∙ ap (λ h. mark o.first h + 1) (sym f.entries_are);
+        number = sym f.number;
+        together = f.together;
+        before = c.before (under_way before 0) f.made;
         kind = c.legal;
       };
       still = c.still;
+      covered = c.covered;
       causes = c.causes;
     } in
-    let past : List Event = close ∷ more in
-    let good : IsGood o past = (lawful, so.good) in
-    let es : entries past ≡ reverse history = ap (λ h. entry ∷ h) so.entries_are ∙ sym closed.appended.history ∙ sym history_is in
-    let rs : receipts past ≡ reverse account = so.receipts_are ∙ sym account_is in
+    let past : List Event = close ∷ before in
+    let good : IsGood o past = (lawful, f.good) in
+    let all : entries past ≡ new.history = ap (λ h. entry ∷ h) f.entries_are ∙ sym closed.cleaned.history in
+    let es : entries past ≡ reverse history = all ∙ sym history_is in
+    let rs : receipts past ≡ reverse account = f.receipts_are ∙ so.receipts_are ∙ sym account_is in
     let events : trail.events ≡ reverse past = merged_events o past history account trail.events law good es rs merges in
     let back : reverse trail.events ≡ past = ap reverse events ∙ reverse-reverse past in
-    let answers : (caller : ℕ) → answers_of caller trail.events ≡ reverse (filter (λ e. nat_eq (caller_of e) caller && is_answer e) past) =
-    λ caller. ap (answers_of caller) events ∙ filter_reverse (λ e. nat_eq (caller_of e) caller && is_answer e) past in
-    let G : List Event → Type 0 = λ l. IsGood o l in
-    let P : List Event → Type 0 = λ l. ArePromised o l in
+    let mine : (caller : ℕ) → Event → Bool = λ caller e. nat_eq (caller_of e) caller && is_answer e in
+    let answers : (caller : ℕ) → answers_of caller trail.events ≡ reverse (filter (mine caller) past) = λ caller. ap (answers_of caller) events ∙ filter_reverse (mine caller) past in
+    let others : (d : ℕ) → nat_eq 0 d ≡ false → under_way before d ≡ [] = λ d other. f.others d other ∙ calls_all more 1 d of own in
+    let P : List Event → Type 0 = λ l. IsGood o l in
+    let Q : List Event → Type 0 = λ l. ArePromised o l in
     let U : List Event → Type 0 = λ l. (d : ℕ) → under_way l d ≡ [] in
     let A : List Event → Type 0 = λ l. AreOurs l in
     let T : List Event → Type 0 = λ l. Todo (entries (reverse trail.events)) 1 commands [] l in
-    let F : List Event → Type 0 = λ l. AreFaultsWithin low (sense.faults new.disk) (entries l) in
-    let E : List Entry → Type 0 = λ h. AreFaultsWithin low (sense.faults new.disk) h in
-    let K : ℕ → Type 0 = λ n. Todo (entries (reverse trail.events)) n commands [] (reverse (filter is_answer more)) in (
+    let K : ℕ → Type 0 = λ m. Todo (entries (reverse trail.events)) m commands [] (reverse (filter is_answer more)) in
+    let C : List Entry → Type 0 = λ h. dirty h ≡ [] in
+    let here : entries (reverse trail.events) ≡ new.history = ap entries back ∙ all in (
       record {
         lawful = record {
           first = first;
-          each = subst G (sym back) good;
-          answered = subst U (sym back) (λ d. closing_call more 1 d entry c.answers of own);
+          each = subst P (sym back) good;
+          answered = subst U (sym back) (λ d. closing_call before d entry c.answers refl others);
         };
-        promised = subst P (sym back) (c.promised, so.promised);
-        todo = subst T (sym (answers 1 ∙ ap reverse (answers_own more 1 of))) (subst K pass (done.todo (entries (reverse trail.events))));
+        promised = subst Q (sym back) (c.promised, f.promised);
+        todo = subst T (sym (answers 1 ∙ ap reverse (f.quiet 1 ∙ answers_own more 1 of))) (subst K pass (done.todo (entries (reverse trail.events))));
         close = close;
-        closed = answers 0 ∙ ap (λ (b : Bool). reverse (cond b (close ∷ filter (λ e. nat_eq (caller_of e) 0 && is_answer e) more) (filter (λ e. nat_eq (caller_of e) 0 && is_answer e) more))) c.answers
-            ∙ ap (λ l. reverse (close ∷ l)) (answers_other more 1 0 of refl);
+        written = n;
+        closed = answers 0 ∙ ap (λ (b : Bool). reverse (cond b (close ∷ filter (mine 0) before) (filter (mine 0) before))) c.answers
+            ∙ ap (λ l. reverse (close ∷ l)) (f.quiet 0 ∙ answers_other more 1 0 of refl);
         closing_is = refl;
-        last = (more, back);
-        others = subst A (sym back) (omega arith, ours more of);
+        last = (before, back);
+        others = subst A (sym back) (omega arith, f.ours (ours more of));
+        clean = λ fine. subst C (sym here) (closed.clean fine);
       },
-      subst F (sym back) (c.within, subst E (sym so.entries_are) (faults_up low (sense.faults desk.disk) (sense.faults new.disk) desk.history later so.faults)),
+      here,
+      subst E (sym closed.cleaned.history) (c.within, f.faults),
     )

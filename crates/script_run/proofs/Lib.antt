@@ -4,6 +4,8 @@ pub mod Growing
 pub mod Doing
 pub mod Along
 pub mod Progress
+pub mod Flushing
 pub mod Finished
+pub mod Resting
 pub mod Answering
 pub mod Reading

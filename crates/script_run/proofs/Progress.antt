@@ -1,6 +1,7 @@
 -- Commands are done one after the other, and then what is held is given back.
-use Rattle.std.proofs.Common.{◌≡◌, ℕ, Bool, true, false, cond, List, [], ◌∷◌, ◌++◌, inl, inr, Option, Some, None, MatchOption, length, refl, ap, ◌∙◌, sym, subst, nat_eq, filter, reverse, append_assoc, eq-eqb}
+use Rattle.std.proofs.Common.{◌≡◌, ℕ, Bool, true, false, cond, List, [], ◌∷◌, ◌++◌, ◌⊎◌, inl, inr, Option, Some, None, MatchOption, length, refl, ap, ◌∙◌, sym, subst, nat_eq, filter, reverse, append_assoc, eq-eqb}
 use Rattle.std.proofs.lemmas.List.{reverse-append}
+use Rattle.page_ids.specs.declared.ids.PageId.{PageId}
 use Rattle.trail.specs.declared.event.Call.{Call}
 use Rattle.trail.specs.declared.event.Call.TheVariants as call
 use Rattle.trail.specs.declared.event.Cause.TheVariants as cause
@@ -16,7 +17,9 @@ use Rattle.trail.specs.Calls.{held_by, held_after_kind, held_after_note, newest_
 use Rattle.desk.specs.State.{State}
 use Rattle.script_text.specs.declared.script.Command.{Command}
 use Rattle.script_text.specs.declared.script.Command.TheVariants as command
-use Rattle.script_run.specs.Todo.{Answers, Todo, GivesBack, IsReceiptOf, IsRefusal}
+use Rattle.script_run.specs.Todo.{Answers, Todo, GivesBack, IsReceiptOf, IsEntryOf, IsRefusal}
+use Rattle.redo_mark.specs.Logs.{Seen}
+use Rattle.script_run.specs.Openings.{Start}
 use Rattle.script_run.specs.Work.{Senses, Working, SoFar, Does, Progress, Ending, Worked, noted}
 use Rattle.script_run.proofs.Fixes.{same_self}
 use Rattle.script_run.proofs.Doing.{does_unfix}
@@ -27,6 +30,10 @@ answers_along k (command.Fix p now) past earlier e same a = a
 answers_along k (command.Read p at len) past earlier e same a =
     let M : List Held → Type 0 = λ fixes. MatchOption (newest_of fixes p) (IsReceiptOf (note.Refused (call.Read p at len) cause.Unheld) e)
     (λ held. (bytes : List ℕ) × (clock : ℕ) × (length bytes ≡ len) × IsReceiptOf (note.Copied p at bytes clock) e) in
+    subst M same a
+answers_along k (command.Put p at bytes) past earlier e same a =
+    let M : List Held → Type 0 = λ fixes. MatchOption (newest_of fixes p) (IsReceiptOf (note.Refused (call.Put p at bytes) cause.Unheld) e)
+    (λ held. ((from : ℕ) × (end : ℕ) × IsEntryOf (kind.Put p at bytes from end) e) ⊎ IsRefusal (call.Put p at bytes) e) in
     subst M same a
 answers_along k (command.Unfix p) past earlier e same a =
     let M : List Held → Type 0 = λ fixes. MatchOption (newest_of fixes p) (IsReceiptOf (note.Refused (call.Unfix p) cause.Unheld) e) (λ held. IsReceiptOf (note.Unfixed p held.frame held.number) e) in
@@ -82,12 +89,20 @@ no_receipt : (found : Option Held) (e : Entry) (A : Type 0) (B : Held → Type 0
 no_receipt None e A B a b m = absurd (a m)
 no_receipt (Some h) e A B a b m = absurd (b h m)
 
+put_answers : (found : Option Held) (e : Entry) (p : PageId) (at : ℕ) (bytes : List ℕ)
+    → MatchOption found (IsReceiptOf (note.Refused (call.Put p at bytes) cause.Unheld) (event.Entry e)) (λ held. ((from : ℕ) × (end : ℕ) × IsEntryOf (kind.Put p at bytes from end) (event.Entry e)) ⊎ IsRefusal (call.Put p at bytes) (event.Entry e))
+    → kind_answers e.kind ≡ true
+put_answers None e p at bytes a = absurd a
+put_answers (Some held) e p at bytes (inl done) = ap kind_answers done.2
+put_answers (Some held) e p at bytes (inr refused) = refusal_answers e (call.Put p at bytes) refused
+
 -- an answer of a command answers
 answers_answer : (k : ℕ) (c : Command) (past : List Event) (e : Event) → Answers k c past e → is_answer e ≡ true
 answers_answer k c past (event.Receipt r) a = refl
 answers_answer k (command.Fix p now) past (event.Entry e) (inl granted) = ap kind_answers granted.2
 answers_answer k (command.Fix p now) past (event.Entry e) (inr refused) = refusal_answers e (call.Fix p now) refused
 answers_answer k (command.Read p at len) past (event.Entry e) a = no_receipt (newest_of (held_by past k) p) e _ _ (λ x. x) (λ h x. x.3) a
+answers_answer k (command.Put p at bytes) past (event.Entry e) a = put_answers (newest_of (held_by past k) p) e p at bytes a
 answers_answer k (command.Unfix p) past (event.Entry e) a = no_receipt (newest_of (held_by past k) p) e _ _ (λ x. x) (λ h x. x) a
 
 quiet_test : (b : Bool) (e : Event) (es xs : List Event) → b ≡ false → xs ≡ es → cond b (e ∷ xs) xs ≡ es
@@ -112,18 +127,18 @@ pub append_nil : {A : Type 0} → (xs : List A) → xs ++ [] ≡ xs
 append_nil [] = refl
 append_nil (x ∷ xs) = ap (λ t. x ∷ t) (append_nil xs)
 
-pub progress_start : {D : Type 0} (sense : Senses D) (o : Opening) (low : ℕ) (desk : State D) (w : Working) (past : List Event) (commands : List Command) → SoFar sense o low desk w past [] → Progress sense o low desk w past commands commands
-progress_start sense o low desk w past commands so = record { more = []; done = []; so_far = so; done_are = refl; held = refl; left = λ h tail t. t }
+pub progress_start : {D : Type 0} (sense : Senses D) (o : Opening) (start : Start) (desk : State D) (log : Seen) (w : Working) (past : List Event) (commands : List Command) → SoFar sense o start desk log w past [] → Progress sense o start desk log w past commands commands
+progress_start sense o start desk log w past commands so = record { more = []; done = []; so_far = so; done_are = refl; held = refl; left = λ h tail t. t }
 
-pub progress_more : {D : Type 0} (sense : Senses D) (o : Opening) (low : ℕ) (desk new : State D) (w v : Working) (past : List Event) (commands : List Command) (c : Command) (rest : List Command)
-    → v.pass ≡ w.pass → (so : Progress sense o low desk w past commands (c ∷ rest)) → Does sense o low new v (so.more ++ past) c → Progress sense o low new v past commands rest
-progress_more sense o low desk new w v past commands c rest pass so does =
+pub progress_more : {D : Type 0} (sense : Senses D) (o : Opening) (start : Start) (desk new : State D) (was is : Seen) (w v : Working) (past : List Event) (commands : List Command) (c : Command) (rest : List Command)
+    → v.pass ≡ w.pass → (so : Progress sense o start desk was w past commands (c ∷ rest)) → Does sense o start new is v (so.more ++ past) c → Progress sense o start new is v past commands rest
+progress_more sense o start desk new was is w v past commands c rest pass so does =
     let H : ℕ → Type 0 = λ k. held_by (so.more ++ past) k ≡ held_by (so.done ++ past) k in
     let held : held_by (so.more ++ past) v.pass ≡ held_by (so.done ++ past) v.pass = subst H (sym pass) so.held in
     let L : ℕ → Type 0 = λ k. (h : List Entry) (tail : List Event) → Todo h k (c ∷ rest) (so.done ++ past) tail → Todo h k commands past (reverse so.done ++ tail) in
     let left = subst L (sym pass) so.left in
     let all : does.answer ∷ (does.before ++ (so.more ++ past)) ≡ does.answer ∷ ((does.before ++ so.more) ++ past) = ap (λ t. does.answer ∷ t) (sym (append_assoc does.before so.more past)) in
-    let S : List Event → Type 0 = λ p. SoFar sense o low new v p [] in
+    let S : List Event → Type 0 = λ p. SoFar sense o start new is v p [] in
     record {
       more = does.answer ∷ does.before ++ so.more;
       done = does.answer ∷ so.done;
@@ -137,8 +152,8 @@ progress_more sense o low desk new w v past commands c rest pass so does =
           subst T (sym (around does.answer so.done tail)) (left h (does.answer ∷ tail) one);
     }
 
-pub ending_start : {D : Type 0} (sense : Senses D) (o : Opening) (low : ℕ) (desk : State D) (w : Working) (past : List Event) (commands : List Command) → Progress sense o low desk w past commands [] → Ending sense o low desk w past commands
-ending_start sense o low desk w past commands so = record {
+pub ending_start : {D : Type 0} (sense : Senses D) (o : Opening) (start : Start) (desk : State D) (log : Seen) (w : Working) (past : List Event) (commands : List Command) → Progress sense o start desk log w past commands [] → Ending sense o start desk log w past commands
+ending_start sense o start desk log w past commands so = record {
   more = so.more;
   done = so.done;
   so_far = so.so_far;
@@ -146,18 +161,18 @@ ending_start sense o low desk w past commands so = record {
   left = λ h tail back. let G : List Held → Type 0 = λ held. GivesBack held tail in so.left h tail (subst G (sym so.so_far.held ∙ so.held) back);
 }
 
-pub ending_more : {D : Type 0} (sense : Senses D) (o : Opening) (low : ℕ) (desk : State D) (w : Working) (past : List Event) (commands : List Command) (h : Held) (rest : List Held)
-    → w.fixed ≡ h ∷ rest → Ending sense o low desk w past commands → Ending sense o low desk (noted desk w (note.Unfixed h.page h.frame h.number)) past commands
-ending_more sense o low desk w past commands h rest first so =
+pub ending_more : {D : Type 0} (sense : Senses D) (o : Opening) (start : Start) (desk : State D) (log : Seen) (w : Working) (past : List Event) (commands : List Command) (h : Held) (rest : List Held)
+    → w.fixed ≡ h ∷ rest → Ending sense o start desk log w past commands → Ending sense o start desk log (noted desk w (note.Unfixed h.page h.frame h.number)) past commands
+ending_more sense o start desk log w past commands h rest first so =
     let v : Working = noted desk w (note.Unfixed h.page h.frame h.number) in
     let newest : newest_of w.fixed h.page ≡ Some h = ap (λ held. newest_of held h.page) first ∙ ap (λ (b : Bool). cond b (Some h) (newest_of rest h.page)) (same_self h.page) in
-    let does : Does sense o low desk v (so.more ++ past) (command.Unfix h.page) = does_unfix sense o low desk w (so.more ++ past) h.page h so.so_far newest in
+    let does : Does sense o start desk log v (so.more ++ past) (command.Unfix h.page) = does_unfix sense o start desk log w (so.more ++ past) h.page h so.so_far newest in
     let left_over : v.fixed ≡ rest = ap (given_back h.number) first ∙ ap (λ (b : Bool). cond b rest (h ∷ given_back h.number rest)) (eq-eqb h.number h.number refl) in
     let here : newest_of (held_by (so.more ++ past) w.pass) h.page ≡ Some h = ap (λ fixes. newest_of fixes h.page) so.so_far.held ∙ newest in
     let M : Option Held → Type 0 = λ found. MatchOption found (IsReceiptOf (note.Refused (call.Unfix h.page) cause.Unheld) does.answer) (λ held. IsReceiptOf (note.Unfixed h.page held.frame held.number) does.answer) in
     let answer : IsReceiptOf (note.Unfixed h.page h.frame h.number) does.answer = subst M here does.answers in
     let all : does.answer ∷ (does.before ++ (so.more ++ past)) ≡ does.answer ∷ ((does.before ++ so.more) ++ past) = ap (λ t. does.answer ∷ t) (sym (append_assoc does.before so.more past)) in
-    let S : List Event → Type 0 = λ p. SoFar sense o low desk v p [] in
+    let S : List Event → Type 0 = λ p. SoFar sense o start desk log v p [] in
     record {
       more = does.answer ∷ does.before ++ so.more;
       done = does.answer ∷ so.done;
@@ -170,8 +185,8 @@ ending_more sense o low desk w past commands h rest first so =
           subst T (sym (around does.answer so.done tail)) (so.left hist (does.answer ∷ tail) (subst F (sym first) (answer, subst G left_over back)));
     }
 
-pub worked : {D : Type 0} (sense : Senses D) (o : Opening) (low : ℕ) (desk : State D) (w : Working) (past : List Event) (commands : List Command) → w.fixed ≡ [] → Ending sense o low desk w past commands → Worked sense o low desk w past commands
-worked sense o low desk w past commands none so =
+pub worked : {D : Type 0} (sense : Senses D) (o : Opening) (start : Start) (desk : State D) (log : Seen) (w : Working) (past : List Event) (commands : List Command) → w.fixed ≡ [] → Ending sense o start desk log w past commands → Worked sense o start desk log w past commands
+worked sense o start desk log w past commands none so =
     let G : List Held → Type 0 = λ held. GivesBack held [] in
     record {
       more = so.more;

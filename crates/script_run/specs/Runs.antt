@@ -1,67 +1,208 @@
 -- What a run answers, by its status.
-use Rattle.std.specs.Prelude.{ℕ, Bool, true, false, List, [], ◌∷◌, ◌++◌, ◌≡◌, ◌+◌, ◌≤◌, ◌⊎◌, Option, None, Some, IsSome, IfSome, take, ⊤, reverse, unwrap_or}
+use Rattle.std.specs.Prelude.{ℕ, Bool, true, false, List, [], ◌∷◌, ◌++◌, ◌≡◌, ◌+◌, ◌<◌, ◌≤◌, ◌^◌, ◌⊎◌, Option, None, Some, IsSome, IsSomeAnd, IfSome, take, ⊤, reverse, unwrap_or}
 use Rattle.std.specs.List.{list_any}
 use Rattle.page_ids.specs.Content.{Content}
 use Rattle.page_ids.specs.Faults.{Rose}
+use Rattle.page_ids.specs.Layout.{IsPage}
+use Rattle.page_ids.specs.Size.{page_bytes}
 use Rattle.page_ids.specs.declared.ids.PageId.{PageId}
 use Rattle.page_disk.specs.Disks.{pages_in}
 use Rattle.page_disk.specs.Shelves.{Asked}
 use Rattle.page_disk.specs.declared.shelf.FaultAt.{FaultAt}
 use Rattle.trail.specs.declared.event.Call.TheVariants as call
+use Rattle.trail.specs.declared.event.Cause.{Cause}
 use Rattle.trail.specs.declared.event.Cause.TheVariants as cause
 use Rattle.trail.specs.declared.event.Kind.{Kind}
 use Rattle.trail.specs.declared.event.Kind.TheVariants as kind
 use Rattle.trail.specs.declared.event.Note.{Note}
 use Rattle.trail.specs.declared.event.Note.TheVariants as note
+use Rattle.trail.specs.declared.event.Entry.{Entry}
 use Rattle.trail.specs.declared.event.Event.{Event}
 use Rattle.trail.specs.declared.event.Event.TheVariants as event
 use Rattle.trail.specs.Events.{Events}
 use Rattle.trail.specs.Places.{entries}
+use Rattle.trail.specs.History.{value}
+use Rattle.trail.specs.Dirt.{dirty}
+use Rattle.trail.specs.Saved.{is_written, saved}
 use Rattle.trail.specs.Calls.{caller_of}
 use Rattle.trail.specs.Opening.{Opening}
 use Rattle.trail.specs.Laws.{IsLawfulTrail}
 use Rattle.trail.specs.Promises.{ArePromised}
 use Rattle.trail.specs.Spelling.{trail_text}
 use Rattle.desk.specs.State.{State}
-use Rattle.desk.specs.Reads.{IsFault}
-use Rattle.desk.specs.Steps.{IsAppended}
+use Rattle.desk.specs.Base.{IsBase}
+use Rattle.desk.specs.Reads.{RoseWithin}
+use Rattle.desk.specs.Logged.{put_change, create_change}
+use Rattle.desk.specs.Changes.{IsCleanedBy}
+use Rattle.redo_mark.specs.Device.{Told}
+use Rattle.redo_mark.specs.Logs.{IsKeptAt}
+use Rattle.redo_mark.specs.Records.{record_of}
+use Rattle.redo_mark.specs.declared.redo.RedoEnd.{RedoEnd}
 use Rattle.script_text.specs.Plan.{Plan, commands_of}
 use Rattle.script_text.specs.CommandLine.{IsRun}
 use Rattle.script_text.specs.Verdict.{IsScript}
 use Rattle.script_text.specs.declared.script.Command.{Command}
 use Rattle.script_run.specs.Todo.{Todo, answers_of, IsEntryOf}
-use Rattle.script_run.specs.Openings.{IsBase, opening_of, AreFaultsWithin}
+use Rattle.script_run.specs.Openings.{Start, opening_of, AreFaultsWithin}
+use Rattle.script_run.specs.Work.{Senses}
 
 -- the events are of thread 1 and of the runner, caller 0
 abbrev pub AreOurs : List Event → Type 0
 AreOurs [] = ⊤
 AreOurs (e ∷ past) = (caller_of e ≤ 1) × AreOurs past
 
+-- the cause by which a fault of the closing flush is told
+abbrev pub fault_cause : Bool → ℕ → ℕ → Cause
+fault_cause true before after = cause.RedoFault before after
+fault_cause false before after = cause.DiskFault before after
+
+abbrev pub cause_of : FaultAt → Cause
+cause_of f = fault_cause f.log f.before f.after
+
+-- the entry that closes a trail: a clean that wrote so many pages, or its refusal by the fault
+abbrev pub closing_of : Option FaultAt → ℕ → Kind
+closing_of None written = kind.Clean written []
+closing_of (Some f) written = kind.Refused (call.Clean 16384) (cause_of f)
+
 -- One lawful history of the plain page map, in which thread 1 does what its commands say, each call once and in order, and the runner's one call comes last.
-pub record IsRunOf (o : Opening) (commands : List Command) (closing : Kind) (trail : Events) : Type 0 where
+-- Without a fault that call leaves no page dirty.
+pub record IsRunOf (o : Opening) (commands : List Command) (fault : Option FaultAt) (trail : Events) : Type 0 where
   pub lawful : IsLawfulTrail o trail
   pub promised : ArePromised o (reverse trail.events)
   pub todo : Todo (entries (reverse trail.events)) 1 commands [] (answers_of 1 trail.events)
   pub close : Event
+  pub written : ℕ
   pub closed : answers_of 0 trail.events ≡ close ∷ []
-  pub closing_is : IsEntryOf closing close
+  pub closing_is : IsEntryOf (closing_of fault written) close
   pub last : (rest : List Event) × (reverse trail.events ≡ close ∷ rest)
   pub others : AreOurs (reverse trail.events)
+  pub clean : fault ≡ None → dirty (entries (reverse trail.events)) ≡ []
 
--- The trail is that of a run over every base that the disk tells; and each fault that it tells lies between the count with which the disk was handed out, where that is told, and its count now.
-pub record IsTrailOf {D : Type 0} (told : PageId → Option (List ℕ)) (handed : Option ℕ) (spaces : D → ℕ → Option ℕ) (faults : D → ℕ) (plan : Plan) (disk : D) (closing : Kind) (trail : Events) : Type 0 where
-  pub run : (base : Option (PageId → Option Content)) → IfSome base (λ first. IsBase told (pages_in (spaces disk)) first) → IsRunOf (opening_of plan.config base (spaces disk)) (commands_of plan) closing trail
-  pub faults_are : AreFaultsWithin (unwrap_or handed 0) (faults disk) (entries (reverse trail.events))
+-- what a shelf tells of the disk and the log that it hands out
+pub record Handed : Type 0 where
+  pub told : PageId → Option (List ℕ)
+  pub spaces : Option (ℕ → Option ℕ)
+  pub disk_faults : Option ℕ
+  pub log : Option Told
+  pub log_faults : Option ℕ
 
--- The disk tells what it told when it was handed out: no page was written.
-pub record IsUntouched {D : Type 0} (told : PageId → Option (List ℕ)) (has : Option (ℕ → Option ℕ)) (tells : D → PageId → Option (List ℕ)) (spaces : D → ℕ → Option ℕ) (disk : D) : Type 0 where
-  pub pages : (p : PageId) → tells disk p ≡ told p
-  pub spaces_are : IfSome has (λ known. (s : ℕ) → spaces disk s ≡ known s)
+abbrev pub handed : (PageId → Option (List ℕ)) → Option (ℕ → Option ℕ) → Option ℕ → Option Told → Option ℕ → Handed
+handed told spaces disk_faults log log_faults = record { told = told; spaces = spaces; disk_faults = disk_faults; log = log; log_faults = log_faults }
 
--- the entry that closes a trail: a clean that wrote nothing, or its refusal by the fault
-abbrev pub closing_of : Option FaultAt → Kind
-closing_of None = kind.Clean 0 []
-closing_of (Some f) = kind.Refused (call.Clean 16384) (cause.DiskFault f.before f.after)
+abbrev pub start_of : Handed → Start
+start_of shelf = record { told = shelf.told; disk_faults = unwrap_or shelf.disk_faults 0; log_faults = unwrap_or shelf.log_faults 0 }
+
+-- what a log's device is to a run: what it tells, and its count of faults
+pub record Reports (R : Type 0) : Type 0 where
+  pub told : R → Option Told
+  pub faults : R → ℕ
+
+abbrev pub reports : {R : Type 0} → (R → Option Told) → (R → ℕ) → Reports R
+reports told faults = record { told = told; faults = faults }
+
+-- a told page is a page for what the history says was last written of it, and as it was handed out where nothing was
+abbrev pub IsSavedPage : Bool → Option (List ℕ) → Option Content → PageId → List ℕ → Type 0
+IsSavedPage true was now p bytes = IfSome now (λ c. IsPage p bytes c)
+IsSavedPage false was now p bytes = was ≡ Some bytes
+
+-- a told page that has a value is a page for it, and each other one is as it was handed out
+abbrev pub IsValuedPage : Option (List ℕ) → Option Content → PageId → List ℕ → Type 0
+IsValuedPage was None p bytes = was ≡ Some bytes
+IsValuedPage was (Some c) p bytes = IsPage p bytes c
+
+-- What the disk holds behind a trail, for each page of its spaces; where the closing flush did not fail, that is what the trail says.
+pub record IsDiskOf (size : ℕ) (base : PageId → Option Content) (pages : ℕ → ℕ) (was now : PageId → Option (List ℕ)) (fault : Option FaultAt) (h : List Entry) : Type 0 where
+  pub saved : (p : PageId) → p.page < pages p.space → IfSome (now p) (λ bytes. IsSavedPage (is_written h p) (was p) (saved size base h p) p bytes)
+  pub whole : fault ≡ None → (p : PageId) → p.page < pages p.space → IfSome (now p) (λ bytes. IsValuedPage (was p) (value size base h p) p bytes)
+
+-- the log keeps the record of a change at its start LSN; the log file's first byte has this LSN
+abbrev pub IsKeptKind : ℕ → Option Told → Kind → Type 0
+IsKeptKind lsn told (kind.Load p f) = ⊤
+IsKeptKind lsn told (kind.Fix p f clock now) = ⊤
+IsKeptKind lsn told (kind.Create p f start end now) = IsKeptAt lsn (record_of (create_change p) start) start told
+IsKeptKind lsn told (kind.Put p at bytes start end) = IsKeptAt lsn (record_of (put_change p at bytes) start) start told
+IsKeptKind lsn told (kind.Evict p f passed) = ⊤
+IsKeptKind lsn told (kind.Write p newest upto) = ⊤
+IsKeptKind lsn told (kind.Move p from to) = ⊤
+IsKeptKind lsn told (kind.Withdraw from) = ⊤
+IsKeptKind lsn told (kind.Undo from) = ⊤
+IsKeptKind lsn told (kind.Shrink chunks) = ⊤
+IsKeptKind lsn told (kind.Grow chunks) = ⊤
+IsKeptKind lsn told (kind.Resize bytes chunks) = ⊤
+IsKeptKind lsn told (kind.Clean written skipped) = ⊤
+IsKeptKind lsn told (kind.Check at) = ⊤
+IsKeptKind lsn told (kind.WatchSet p) = ⊤
+IsKeptKind lsn told (kind.WatchAt p f) = ⊤
+IsKeptKind lsn told (kind.Occurred p arrived) = ⊤
+IsKeptKind lsn told (kind.Unwatch p) = ⊤
+IsKeptKind lsn told (kind.Dump pct ids) = ⊤
+IsKeptKind lsn told (kind.Refused asked why) = ⊤
+
+abbrev pub AreKept : ℕ → Option Told → List Entry → Type 0
+AreKept lsn told [] = ⊤
+AreKept lsn told (e ∷ h) = IsKeptKind lsn told e.kind × AreKept lsn told h
+
+-- no refusal names an end of the log behind this one
+abbrev pub EndsCause : ℕ → Cause → Type 0
+EndsCause end (cause.PlacesSpent mark need) = ⊤
+EndsCause end (cause.NoSuchPage pages) = ⊤
+EndsCause end (cause.HoldFull held) = ⊤
+EndsCause end (cause.Resident f) = ⊤
+EndsCause end (cause.AllFixed seen) = ⊤
+EndsCause end (cause.RedoFault before after) = ⊤
+EndsCause end (cause.DiskFault before after) = ⊤
+EndsCause end (cause.BadPage bad) = ⊤
+EndsCause end (cause.LogSpent at) = at ≤ end
+EndsCause end (cause.WatchFull watches) = ⊤
+EndsCause end cause.NoWatch = ⊤
+EndsCause end cause.TooSmall = ⊤
+EndsCause end (cause.TooLarge chunks max) = ⊤
+EndsCause end (cause.Withdrawing from) = ⊤
+EndsCause end (cause.Undone seen) = ⊤
+EndsCause end (cause.NoFrame frames) = ⊤
+EndsCause end (cause.Stale found) = ⊤
+EndsCause end (cause.OtherPage found) = ⊤
+EndsCause end (cause.Latched found) = ⊤
+EndsCause end (cause.Busy found) = ⊤
+EndsCause end cause.Unheld = ⊤
+
+-- and no entry does
+abbrev pub EndsKind : ℕ → Kind → Type 0
+EndsKind end (kind.Load p f) = ⊤
+EndsKind end (kind.Fix p f clock now) = ⊤
+EndsKind end (kind.Create p f from to now) = to ≤ end
+EndsKind end (kind.Put p at bytes from to) = to ≤ end
+EndsKind end (kind.Evict p f passed) = ⊤
+EndsKind end (kind.Write p newest upto) = ⊤
+EndsKind end (kind.Move p from to) = ⊤
+EndsKind end (kind.Withdraw from) = ⊤
+EndsKind end (kind.Undo from) = ⊤
+EndsKind end (kind.Shrink chunks) = ⊤
+EndsKind end (kind.Grow chunks) = ⊤
+EndsKind end (kind.Resize bytes chunks) = ⊤
+EndsKind end (kind.Clean written skipped) = ⊤
+EndsKind end (kind.Check lsn) = lsn ≤ end
+EndsKind end (kind.WatchSet p) = ⊤
+EndsKind end (kind.WatchAt p f) = ⊤
+EndsKind end (kind.Occurred p arrived) = ⊤
+EndsKind end (kind.Unwatch p) = ⊤
+EndsKind end (kind.Dump pct ids) = ⊤
+EndsKind end (kind.Refused asked why) = EndsCause end why
+
+abbrev pub EndsBehind : ℕ → List Entry → Type 0
+EndsBehind end [] = ⊤
+EndsBehind end (e ∷ h) = EndsKind end e.kind × EndsBehind end h
+
+-- nothing but more bytes behind those that the log kept when it was handed out
+abbrev pub IsExtended : Option Told → Option Told → Type 0
+IsExtended was now = IfSome was (λ s. IsSomeAnd now (λ t. (more : List ℕ) × (t.kept ≡ s.kept ++ more)))
+
+-- What the log holds behind a trail: its end is behind each change and each end that the trail names; where the closing flush did not fail, the log keeps the record of each change.
+pub record IsLogOf {R : Type 0} (lsn : ℕ) (was : Option Told) (report : Reports R) (log : RedoEnd R) (fault : Option FaultAt) (h : List Entry) : Type 0 where
+  pub ends : EndsBehind log.end h
+  pub durable : log.durable ≤ log.end
+  pub extended : IsExtended was (report.told log.disk)
+  pub kept : fault ≡ None → AreKept lsn (report.told log.disk) h
 
 abbrev pub is_refused_kind : Kind → Bool
 is_refused_kind (kind.Refused asked why) = true
@@ -76,22 +217,41 @@ abbrev pub is_refused : Event → Bool
 is_refused (event.Entry e) = is_refused_kind e.kind
 is_refused (event.Receipt r) = is_refused_note r.note
 
--- A script was run to its end on the disk of instance 0, which told this when it was handed out.
-pub record IsEndedRun {D : Type 0} (told : PageId → Option (List ℕ)) (has : Option (ℕ → Option ℕ)) (handed : Option ℕ)
-    (tells : D → PageId → Option (List ℕ)) (spaces : D → ℕ → Option ℕ) (faults : D → ℕ) (plan : Plan) (fault : Option FaultAt) (trails : List Events) (disks : List D) : Type 0 where
+-- A script was run to its end on the disk of instance 0 and the log that the shelf handed out.
+pub record IsEndedRun {D R : Type 0} (shelf : Handed) (sense : Senses D) (report : Reports R) (plan : Plan) (fault : Option FaultAt)
+    (trails : List Events) (disks : List D) (log : Option (RedoEnd R)) : Type 0 where
   pub trail : Events
   pub disk : D
+  pub end : RedoEnd R
   pub trails_are : trails ≡ trail ∷ []
   pub disks_are : disks ≡ disk ∷ []
-  pub trail_is : IsTrailOf told handed spaces faults plan disk (closing_of fault) trail
-  pub disk_is : IsUntouched told has tells spaces disk
+  pub log_is : log ≡ Some end
+  -- over every base that the disk's told bytes give, and without values where it doesn't tell
+  pub run : (base : Option (PageId → Option Content)) → IfSome base (λ first. IsBase shelf.told (pages_in (sense.spaces disk)) first)
+      → IsRunOf (opening_of plan.config base (sense.spaces disk)) (commands_of plan) fault trail
+  -- each fault that the trail tells lies between the count with which its device was handed out, where that is told, and its count now
+  pub faults : AreFaultsWithin (start_of shelf) (sense.faults disk) (report.faults end.disk) (entries (reverse trail.events))
+  pub spaces_are : IfSome shelf.spaces (λ known. (s : ℕ) → sense.spaces disk s ≡ known s)
+  pub holds : (base : PageId → Option Content) → IsBase shelf.told (pages_in (sense.spaces disk)) base
+      → IsDiskOf (page_bytes plan.config.page) base (pages_in (sense.spaces disk)) shelf.told (sense.told disk) fault (entries (reverse trail.events))
+  pub logs : IsLogOf plan.config.lsn shelf.log report end fault (entries (reverse trail.events))
 
 -- And the script is what the source had left, where that is told.
-pub record IsEnded {D : Type 0} (left : Option (List ℕ)) (told : PageId → Option (List ℕ)) (has : Option (ℕ → Option ℕ)) (handed : Option ℕ)
-    (tells : D → PageId → Option (List ℕ)) (spaces : D → ℕ → Option ℕ) (faults : D → ℕ) (fault : Option FaultAt) (trails : List Events) (disks : List D) : Type 0 where
+pub record IsEnded {D R : Type 0} (left : Option (List ℕ)) (shelf : Handed) (sense : Senses D) (report : Reports R) (fault : Option FaultAt)
+    (trails : List Events) (disks : List D) (log : Option (RedoEnd R)) : Type 0 where
   pub plan : Plan
   pub script : (bytes : List ℕ) → left ≡ Some bytes → IsScript bytes plan
-  pub run : IsEndedRun told has handed tells spaces faults plan fault trails disks
+  pub run : IsEndedRun shelf sense report plan fault trails disks log
+
+-- The log is too long for the script's `lsn`: its last byte would have an LSN above 2^63. It is handed back as it was opened.
+pub record IsLongLog {R : Type 0} (left : Option (List ℕ)) (line : ℕ) (log : Option (RedoEnd R)) : Type 0 where
+  pub plan : Plan
+  pub script : (bytes : List ℕ) → left ≡ Some bytes → IsScript bytes plan
+  pub end : RedoEnd R
+  pub log_is : log ≡ Some end
+  pub whole : line ≡ 0
+  pub opened : end.durable ≡ end.end
+  pub beyond : 2 ^ 63 < plan.config.lsn + end.end
 
 -- the statuses at which a script was run to its end, and trails and disks are handed back
 abbrev pub HasEnded : ℕ → Option FaultAt → Type 0
@@ -109,9 +269,8 @@ IsSilent status = (status ≡ 2) ⊎ (status ≡ 3) ⊎ (status ≡ 4) ⊎ (stat
 abbrev pub IsNoScript : ℕ → ℕ → ℕ → Type 0
 IsNoScript status line n = (status ≡ 2) ⊎ ((status ≡ 3) × (line ≡ n)) ⊎ (status ≡ 4) ⊎ (status ≡ 7)
 
--- a fault of the disk of instance 0 in the closing flush
-pub record IsDiskFault (f : FaultAt) : Type 0 where
-  pub disk : f.log ≡ false
+-- a fault of the log or of the disk of instance 0 in the closing flush
+pub record IsFlushFault (f : FaultAt) : Type 0 where
   pub instance : f.instance ≡ 0
   pub rose : Rose f.before f.after
 
@@ -135,17 +294,24 @@ has_refusal trails = list_any (λ (t : Events). list_any is_refused t.events) tr
 abbrev pub AreRun : List (List ℕ) → Type 0
 AreRun words = (space : ℕ) × (file : List ℕ) × (log : List ℕ) × IsRun words space file log
 
--- A shelf that had no call before has none now, or was asked for the disk of instance 0 once, with the script's numbers, and has not strayed.
+-- A shelf that had no call before has none now, or was asked for the disk of instance 0 once and then at most once for the log, with the script's numbers, and has not strayed.
 pub record IsAskedOnce (left : Option (List ℕ)) (now : Asked) : Type 0 where
   pub plan : Plan
   pub script : (bytes : List ℕ) → left ≡ Some bytes → IsScript bytes plan
-  pub asked : now ≡ record { config = Some plan.config; disks = 1; strayed = false }
+  pub log : Bool
+  pub asked : now ≡ record { config = Some plan.config; disks = 1; log = log; strayed = false }
 
--- The runner's clean was appended, or its refusal by the fault.
+-- The runner's clean wrote pages and was answered, or refused by the fault; without one no page is dirty.
 pub record IsClosed {D : Type 0} (old new : State D) (fault : Option FaultAt) : Type 0 where
-  pub appended : IsAppended old new (record { pass = 0; number = 1 }) (closing_of fault)
+  pub written : ℕ
+  pub cleaned : IsCleanedBy old new (record { pass = 0; number = 1 }) written (closing_of fault written)
+  pub clean : fault ≡ None → dirty new.history ≡ []
 
--- the count of faults rose so in the flush
-pub record IsFlushFault (was is : ℕ) (f : FaultAt) : Type 0 where
-  pub where_is : IsDiskFault f
-  pub counts : IsFault was is f.before f.after
+-- the count of faults of the device that failed rose so in the flush; the disk's and the log's were and are so
+abbrev pub RoseSo : Bool → ℕ → ℕ → ℕ → ℕ → ℕ → ℕ → Type 0
+RoseSo true disk_was disk_is log_was log_is before after = RoseWithin log_was log_is before after
+RoseSo false disk_was disk_is log_was log_is before after = RoseWithin disk_was disk_is before after
+
+pub record IsFlushedWith (disk_was disk_is log_was log_is : ℕ) (f : FaultAt) : Type 0 where
+  pub where_is : IsFlushFault f
+  pub counts : RoseSo f.log disk_was disk_is log_was log_is f.before f.after

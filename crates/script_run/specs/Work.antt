@@ -1,6 +1,5 @@
 -- A worker beside its desk: the trail so far is lawful, and both keep what it says.
-use Rattle.std.specs.Prelude.{ℕ, List, [], ◌∷◌, ◌++◌, ◌≡◌, ◌+◌, ◌*◌, ◌<◌, ◌≤◌, Option, Some, IfSome, length, slice_get, filter, reverse}
-use Rattle.page_ids.specs.Size.{page_bytes}
+use Rattle.std.specs.Prelude.{ℕ, Bool, List, [], ◌∷◌, ◌++◌, ◌≡◌, ◌+◌, ◌*◌, ◌<◌, ◌≤◌, Option, Some, IfSome, length, filter, reverse}
 use Rattle.page_ids.specs.declared.ids.PageId.{PageId}
 use Rattle.page_disk.specs.Disks.{IsSameDisk, pages_in}
 use Rattle.trail.specs.declared.event.Receipt.{Receipt}
@@ -10,15 +9,20 @@ use Rattle.trail.specs.declared.event.Entry.{Entry}
 use Rattle.trail.specs.declared.event.Held.{Held}
 use Rattle.trail.specs.declared.event.Event.{Event}
 use Rattle.trail.specs.Places.{mark, entries, receipts}
-use Rattle.trail.specs.History.{value, home, disk_faults}
+use Rattle.trail.specs.History.{home, disk_faults, log_faults}
+use Rattle.trail.specs.Dirt.{log_end}
 use Rattle.trail.specs.Calls.{caller_of, is_answer, next_number, under_way, held_by, held_after_kind, held_after_note}
 use Rattle.trail.specs.Opening.{Opening}
 use Rattle.trail.specs.Laws.{IsGood}
 use Rattle.trail.specs.Promises.{ArePromised}
+use Rattle.redo_mark.specs.Logs.{Seen, IsLater}
 use Rattle.desk.specs.State.{State}
+use Rattle.desk.specs.Base.{Opened}
+use Rattle.desk.specs.Behind.{IsBehind}
+use Rattle.desk.specs.Logged.{IsLogged}
 use Rattle.script_text.specs.declared.script.Command.{Command}
 use Rattle.script_run.specs.Todo.{Answers, Todo, GivesBack}
-use Rattle.script_run.specs.Openings.{IsBase, AreFaultsWithin}
+use Rattle.script_run.specs.Openings.{Start, opened_of, AreFaultsWithin}
 
 -- a worker: its pass, the number of its next call, the fixes that it holds and its receipts, both with the newest first
 pub record Working : Type 0 where
@@ -37,18 +41,19 @@ abbrev pub AreOf : ℕ → List Event → Type 0
 AreOf c [] = Unit {0}
 AreOf c (e ∷ past) = (caller_of e ≡ c) × AreOf c past
 
--- what a disk is to its instance: page size, told pages, spaces and count of faults
+-- what a disk is to its instance: page size, whether it tells, told pages, spaces and count of faults
 pub record Senses (D : Type 0) : Type 0 where
   pub size : D → ℕ
+  pub tells : D → Bool
   pub told : D → PageId → Option (List ℕ)
   pub spaces : D → ℕ → Option ℕ
   pub faults : D → ℕ
 
-abbrev pub senses : {D : Type 0} → (D → ℕ) → (D → PageId → Option (List ℕ)) → (D → ℕ → Option ℕ) → (D → ℕ) → Senses D
-senses size told spaces faults = record { size = size; told = told; spaces = spaces; faults = faults }
+abbrev pub senses : {D : Type 0} → (D → ℕ) → (D → Bool) → (D → PageId → Option (List ℕ)) → (D → ℕ → Option ℕ) → (D → ℕ) → Senses D
+senses size tells told spaces faults = record { size = size; tells = tells; told = told; spaces = spaces; faults = faults }
 
--- What stands between two calls of a worker, whose call under way has these entries; the disk was handed out with this count of faults.
-pub record SoFar {D : Type 0} (sense : Senses D) (o : Opening) (low : ℕ) (desk : State D) (worker : Working) (past : List Event) (pending : List Kind) : Type 0 where
+-- What stands between two calls of a worker, whose call under way has these entries; the devices were handed out so.
+pub record SoFar {D : Type 0} (sense : Senses D) (o : Opening) (start : Start) (desk : State D) (log : Seen) (worker : Working) (past : List Event) (pending : List Kind) : Type 0 where
   pub good : IsGood o past
   pub promised : ArePromised o past
   pub entries_are : entries past ≡ desk.history
@@ -56,16 +61,21 @@ pub record SoFar {D : Type 0} (sense : Senses D) (o : Opening) (low : ℕ) (desk
   pub first_is : desk.config.first ≡ o.first
   pub config_is : desk.config ≡ o.config
   pub pages_are : (s : ℕ) → o.pages s ≡ pages_in (sense.spaces desk.disk) s
-  pub based : IfSome o.base (λ base. IsBase (sense.told desk.disk) o.pages base)
-  pub values : IfSome o.base (λ base. (p : PageId) (f : ℕ) → home desk.history p ≡ Some f → slice_get desk.images f ≡ value (page_bytes o.config.page) base desk.history p)
-  pub faults : AreFaultsWithin low (sense.faults desk.disk) desk.history
+  pub logged : IsLogged log desk.history
+  pub faults : AreFaultsWithin start (sense.faults desk.disk) log.faults desk.history
   pub last_fault : disk_faults desk.history ≤ sense.faults desk.disk
-  pub low_is : low ≤ sense.faults desk.disk
+  pub last_log_fault : log_faults desk.history ≤ log.faults
+  pub low_is : start.disk_faults ≤ sense.faults desk.disk
+  pub low_log : start.log_faults ≤ log.faults
   pub number : next_number past worker.pass ≡ worker.next
   pub calls : under_way past worker.pass ≡ pending
   pub held : held_by past worker.pass ≡ worker.fixed
   pub falling : AreFalling worker.next worker.fixed
   pub alone : AreOf worker.pass past
+
+-- Where values are told: each image is its page's value, and the disk has what was last written of each page.
+abbrev pub StandsBehind : {D : Type 0} → Senses D → Opening → Start → State D → Type 0
+StandsBehind sense o start desk = IfSome o.base (λ base. IsBehind sense.tells sense.told sense.spaces (opened_of o start base) desk)
 
 -- the worker after an answer by an entry
 abbrev pub answered : Working → Kind → Working
@@ -84,11 +94,11 @@ abbrev pub noted : {D : Type 0} → State D → Working → Note → Working
 noted desk w n = record { pass = w.pass; next = w.next + 1; fixed = held_after_note w.next n w.fixed; account = next_receipt desk w n ∷ w.account }
 
 -- A command was done: events that are no answers came, and then its answer.
-pub record Does {D : Type 0} (sense : Senses D) (o : Opening) (low : ℕ) (desk : State D) (worker : Working) (past : List Event) (command : Command) : Type 0 where
+pub record Does {D : Type 0} (sense : Senses D) (o : Opening) (start : Start) (desk : State D) (log : Seen) (worker : Working) (past : List Event) (command : Command) : Type 0 where
   pub answer : Event
   pub before : List Event
   pub quiet : filter is_answer before ≡ []
-  pub so_far : SoFar sense o low desk worker (answer ∷ before ++ past) []
+  pub so_far : SoFar sense o start desk log worker (answer ∷ before ++ past) []
   pub answers : Answers worker.pass command past answer
 
 -- each fix that is held is of a page that is in its frame
@@ -96,36 +106,39 @@ abbrev pub AreHoused : List Entry → List Held → Type 0
 AreHoused h [] = Unit {0}
 AreHoused h (held ∷ more) = (home h held.page ≡ Some held.frame) × AreHoused h more
 
--- So many commands led from the one desk and worker to the other: what the next one's conditions ask.
-pub record Along {D : Type 0} (sense : Senses D) (n : ℕ) (old new : State D) (w v : Working) : Type 0 where
+-- So many commands led from the one desk, log and worker to the other: what the next one's conditions ask.
+pub record Along {D : Type 0} (sense : Senses D) (n : ℕ) (old new : State D) (was is : Seen) (w v : Working) : Type 0 where
   pub config : new.config ≡ old.config
   pub grown : length new.history ≤ length old.history + 2 * n
   pub pass : v.pass ≡ w.pass
   pub next : v.next ≡ w.next + n
   pub fewer : length v.fixed ≤ length w.fixed + n
   pub housed : AreHoused old.history w.fixed → AreHoused new.history v.fixed
-  pub disk : IsSameDisk sense.size sense.told sense.spaces sense.faults old.disk new.disk
+  pub disk : IsSameDisk sense.size sense.tells sense.told sense.spaces sense.faults old.disk new.disk
+  pub behind : (o : Opened) → IsBehind sense.tells sense.told sense.spaces o old → IsBehind sense.tells sense.told sense.spaces o new
+  pub log : IsLater was is
+  pub known : log_end old.history ≤ was.end → log_end new.history ≤ is.end
 
 -- Of the commands those before the rest were done; the answers so far, the newest first, with any that suit the rest, suit all.
-pub record Progress {D : Type 0} (sense : Senses D) (o : Opening) (low : ℕ) (desk : State D) (worker : Working) (past : List Event) (commands rest : List Command) : Type 0 where
+pub record Progress {D : Type 0} (sense : Senses D) (o : Opening) (start : Start) (desk : State D) (log : Seen) (worker : Working) (past : List Event) (commands rest : List Command) : Type 0 where
   pub more : List Event
   pub done : List Event
-  pub so_far : SoFar sense o low desk worker (more ++ past) []
+  pub so_far : SoFar sense o start desk log worker (more ++ past) []
   pub done_are : filter is_answer more ≡ done
   pub held : held_by (more ++ past) worker.pass ≡ held_by (done ++ past) worker.pass
   pub left : (h : List Entry) (tail : List Event) → Todo h worker.pass rest (done ++ past) tail → Todo h worker.pass commands past (reverse done ++ tail)
 
 -- All commands were done, and what is still held has to be given back.
-pub record Ending {D : Type 0} (sense : Senses D) (o : Opening) (low : ℕ) (desk : State D) (worker : Working) (past : List Event) (commands : List Command) : Type 0 where
+pub record Ending {D : Type 0} (sense : Senses D) (o : Opening) (start : Start) (desk : State D) (log : Seen) (worker : Working) (past : List Event) (commands : List Command) : Type 0 where
   pub more : List Event
   pub done : List Event
-  pub so_far : SoFar sense o low desk worker (more ++ past) []
+  pub so_far : SoFar sense o start desk log worker (more ++ past) []
   pub done_are : filter is_answer more ≡ done
   pub left : (h : List Entry) (tail : List Event) → GivesBack worker.fixed tail → Todo h worker.pass commands past (reverse done ++ tail)
 
 -- The thread is done: its answers are those of its commands, and it holds nothing.
-pub record Worked {D : Type 0} (sense : Senses D) (o : Opening) (low : ℕ) (desk : State D) (worker : Working) (past : List Event) (commands : List Command) : Type 0 where
+pub record Worked {D : Type 0} (sense : Senses D) (o : Opening) (start : Start) (desk : State D) (log : Seen) (worker : Working) (past : List Event) (commands : List Command) : Type 0 where
   pub more : List Event
-  pub so_far : SoFar sense o low desk worker (more ++ past) []
+  pub so_far : SoFar sense o start desk log worker (more ++ past) []
   pub none : worker.fixed ≡ []
   pub todo : (h : List Entry) → Todo h worker.pass commands past (reverse (filter is_answer more))

@@ -2,6 +2,7 @@
 ghost use Rattle.std.specs.Prelude.{◌≡◌, [], None};
 
 use page_disk::{FaultAt, PageDisk};
+use redo_mark::{RedoDisk, RedoEnd};
 use std::alloc::Global;
 use trail::Trail;
 
@@ -12,15 +13,16 @@ use trail::Trail;
 /// | 0 | the script was run, and no call was refused |
 /// | 1 | the script was run, and a call was refused |
 /// | 2 | the words are no command |
-/// | 3 | the script is none; `line` is its first bad line, or 0 for a fault of the whole |
+/// | 3 | the script is none; `line` is its first bad line, or 0 for a fault of the whole; or the log is too long for its `lsn`, which is line 0 |
 /// | 4 | the script's source failed |
 /// | 5 | the output failed; a beginning of the text was written |
 /// | 6 | a device failed: at its opening, or in the closing flush, and then `fault` tells which |
 /// | 7 | want of memory |
 ///
-/// At 0, 1, 5 and at 6 with a fault the trails and the disks are here, else none. Nothing was written but at 0, 1 and 5.
+/// At 0, 1, 5 and at 6 with a fault the trails, the disks and the log are here, else none; a log that is too long is here too. Nothing was
+/// written but at 0, 1 and 5.
 #[derive(Drop)]
-pub struct Outcome<D: PageDisk> {
+pub struct Outcome<D: PageDisk, R: RedoDisk> {
     pub status: u8,
     /// The bad line at status 3, else 0.
     pub line: u32,
@@ -30,15 +32,18 @@ pub struct Outcome<D: PageDisk> {
     pub trails: Vec<Trail>,
     /// One disk per instance.
     pub disks: Vec<D>,
+    /// The log's device, its end and how far it is durable.
+    pub redo: Option<RedoEnd<R>>,
 }
 
-/// An answer without trails and disks.
-pub(crate) fn bare<D: PageDisk>(alloc: Global, status: u8, line: u32) -> Outcome<D>
+/// An answer without trails, disks and log.
+pub(crate) fn bare<D: PageDisk, R: RedoDisk>(alloc: Global, status: u8, line: u32) -> Outcome<D, R>
     ensures status { result.status ≡ status }
     ensures line { result.line ≡ line }
     ensures fault { result.fault ≡ None }
     ensures trails { result.trails.items ≡ [] }
     ensures disks { result.disks.items ≡ [] }
+    ensures redo { result.redo ≡ None }
 {
     Outcome {
         status,
@@ -46,5 +51,6 @@ pub(crate) fn bare<D: PageDisk>(alloc: Global, status: u8, line: u32) -> Outcome
         fault: None,
         trails: Vec::new(alloc),
         disks: Vec::new(alloc),
+        redo: None,
     }
 }

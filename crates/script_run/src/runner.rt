@@ -1,36 +1,63 @@
 //! The top call.
-ghost use Rattle.std.specs.Prelude.{◌≡◌, ◌≢◌, ◌≤◌, ◌<◌, ◌+◌, ◌++◌, ◌∷◌, ◌↔◌, ◌⊎◌, [], ℕ, List, Option, Some, None, Err, IfOk, IfErr, OnOk, IsTrue, IsSome, IfSome, ⊤, ◌^◌, false, length, map, string_bytes, take};
+ghost use Rattle.std.specs.Prelude.{◌≡◌, ◌≢◌, ◌≤◌, ◌<◌, ◌+◌, ◌*◌, ◌++◌, ◌∷◌, ◌↔◌, ◌⊎◌, [], ℕ, List, Option, Some, None, Err, IfOk, IfErr, OnOk, IsTrue, IsSome, IsSomeAnd, IfSome, Bool, ⊤, ◌^◌, true, false, length, map, string_bytes, take};
 ghost use Rattle.std.specs.List.{list_any};
 ghost use Rattle.page_ids.specs.Size.{page_bytes};
 ghost use Rattle.page_ids.specs.Faults.{Rose};
-ghost use Rattle.page_disk.specs.Disks.{IsSameDisk};
 ghost use Rattle.page_disk.specs.Shelves.{unasked};
 ghost use Rattle.page_disk.specs.declared.shelf.FaultAt.{FaultAt};
+ghost use Rattle.redo_mark.specs.Device.{IsAsOpened};
+ghost use Rattle.redo_mark.specs.Logs.{IsLater, IsKept};
 ghost use Rattle.trail.specs.Spelling.{trail_text};
+ghost use Rattle.trail.specs.Dirt.{log_end};
+ghost use Rattle.desk.specs.Base.{Opened};
+ghost use Rattle.desk.specs.Behind.{IsBehind};
+ghost use Rattle.desk.specs.Logged.{IsLogged};
 ghost use Rattle.script_text.specs.Plan.{Plan, commands_of};
 ghost use Rattle.script_text.specs.Within.{IsWithin};
 ghost use Rattle.script_text.specs.Verdict.{IsScript, IsBad};
-ghost use Rattle.script_run.specs.Runs.{IsTrailOf, IsDiskFault, IsFlushFault, IsClosed, IsEndedRun, IsEnded, HasEnded, IsRunStatus, IsSilent, IsNoScript, IsWritten, IsWrittenInPart, AreRun, IsAskedOnce, closing_of, is_refused, has_refusal};
+ghost use Rattle.script_run.specs.Work.{senses};
+ghost use Rattle.script_run.specs.Runs.{IsFlushFault, IsFlushedWith, IsClosed, IsEndedRun, IsEnded, IsLongLog, HasEnded, IsRunStatus, IsSilent, IsNoScript};
+ghost use Rattle.script_run.specs.Runs.{IsWritten, IsWrittenInPart, AreRun, IsAskedOnce, handed, reports, is_refused, has_refusal};
 
 use crate::ends::{ReadErr, read_all, write_all};
 use crate::outcome::{Outcome, bare};
 use crate::worker::Worker;
-use desk::{Caller, CleanErr, Desk};
+use desk::{Caller, CleanErr, Desk, clean_disk_holds_the_values};
 use page_disk::{FaultAt, PageDisk, Shelf, Sink, Source};
 use page_ids::OutOfMemory;
+use redo_mark::{Redo, RedoDisk, RedoEnd};
 use script_text::{Script, ScriptErr, WordsErr, command_of, read_script};
 use std::alloc::Global;
-use trail::{Event, Kind, Note, Trail, merge, one_account_merges, text};
+use trail::{
+    Event, Kind, Note, Trail, a_clean_history_is_durable, dirty_pages_are_apart, merge,
+    one_account_merges, text,
+};
 
 /// The closing flush takes all dirty pages: an instance has at most so many frames.
 const ALL: u32 = 16_384;
 
-/// A script that was run: its trail, its disk, and the fault of the closing flush.
+/// No LSN is above this.
+const LSN_MAX: u64 = 1 << 63;
+
+/// A script that was run: its trail, its disk, its log, and the fault of the closing flush.
 #[derive(Drop)]
-struct Ended<D: PageDisk> {
+struct Ended<D: PageDisk, R: RedoDisk> {
     trail: Trail,
     disk: D,
+    redo: RedoEnd<R>,
     fault: Option<FaultAt>,
+}
+
+/// A device's fault in the closing flush of instance 0.
+fn fault_of(log: bool, before: u64, after: u64) -> FaultAt
+    ensures { result ≡ record { log = log; instance = 0; before = before; after = after } }
+{
+    FaultAt {
+        log,
+        instance: 0,
+        before,
+        after,
+    }
 }
 
 /// Whether the event is a refusal.
@@ -51,50 +78,82 @@ fn has_refusal(events: &[Event]) -> bool
 }
 
 /// Cleans as caller 0 with a sync; answers the fault, where there was one.
-fn close<D: PageDisk>(desk: &mut Desk<D>) -> Result<Option<FaultAt>, OutOfMemory>
-    requires places { desk.old.state.config.first + length desk.old.state.history + 1 < 2 ^ 64 }
+fn close<D: PageDisk, R: RedoDisk>(
+    desk: &mut Desk<D>,
+    redo: &mut Redo<R>,
+) -> Result<Option<FaultAt>, OutOfMemory>
+    requires places { desk.old.state.config.first + 2 * length desk.old.state.history + 1 < 2 ^ 64 }
+    requires few { length desk.old.state.history < 16384 }
+    requires known { log_end desk.old.state.history ≤ redo.old.seen.end }
     ensures closed { IfOk result (λ fault. IsClosed desk.old.state desk.new.state fault) }
-    ensures fault { IfOk result (λ fault. IfSome fault (λ f. IsFlushFault (D.fault_count desk.old.state.disk) (D.fault_count desk.new.state.disk) f)) }
-    ensures disk { IsSameDisk D.page_size D.told D.space_pages D.fault_count desk.old.state.disk desk.new.state.disk }
+    ensures fault { IfOk result (λ fault. IfSome fault (λ f. IsFlushedWith (D.fault_count desk.old.state.disk)
+        (D.fault_count desk.new.state.disk) redo.old.seen.faults redo.new.seen.faults f)) }
+    ensures logged { IsLogged redo.old.seen desk.old.state.history → IsLogged redo.new.seen desk.new.state.history }
+    ensures known { log_end desk.new.state.history ≤ redo.new.seen.end }
+    ensures later { IsLater redo.old.seen redo.new.seen }
+    ensures opening { redo.new.opening ≡ redo.old.opening }
+    ensures counted { D.fault_count desk.old.state.disk ≤ D.fault_count desk.new.state.disk }
+    ensures spaces { (space : ℕ) → D.space_pages desk.new.state.disk space ≡ D.space_pages desk.old.state.disk space }
+    ensures behind { (o : Opened) → IsBehind D.tells D.told D.space_pages o desk.old.state
+        → IsBehind D.tells D.told D.space_pages o desk.new.state }
 {
+    dirty_pages_are_apart();
     let by = Caller { pass: 0, number: 1 };
-    match desk.clean_at(by, ALL, true) {
+    match desk.clean_at(redo, by, ALL, true) {
         Ok(_) => Ok(None),
         Err(CleanErr::OutOfMemory) => Err(OutOfMemory),
-        Err(CleanErr::DiskFault { before, after }) => Ok(Some(FaultAt {
-            log: false,
-            instance: 0,
-            before,
-            after,
-        })),
+        Err(CleanErr::RedoFault { before, after }) => Ok(Some(fault_of(true, before, after))),
+        Err(CleanErr::DiskFault { before, after }) => Ok(Some(fault_of(false, before, after))),
     }
 }
 
-/// Runs a script on a disk: thread 1's calls, then the closing flush, and the trail of both.
-fn run_on<D: PageDisk>(alloc: Global, script: &Script, disk: D) -> Result<Ended<D>, OutOfMemory>
+/// Runs a script on a disk and a log: thread 1's calls, then the closing flush, and the trail of both.
+fn run_on<D: PageDisk, R: RedoDisk>(
+    alloc: Global,
+    script: &Script,
+    disk: D,
+    log: R,
+) -> Result<Ended<D, R>, OutOfMemory>
     requires size { D.page_size disk ≡ page_bytes script.now.config.page }
     requires script { IsWithin script.now }
-    ensures trail { IfOk result (λ e. IsTrailOf (D.told disk) (Some (D.fault_count disk)) D.space_pages D.fault_count script.now e.disk (closing_of e.fault) e.trail) }
-    ensures fault { IfOk result (λ e. IfSome e.fault (λ f. IsDiskFault f)) }
-    ensures disk { IfOk result (λ e. IsSameDisk D.page_size D.told D.space_pages D.fault_count disk e.disk) }
+    requires limit { script.now.config.lsn + R.opened log ≤ 2 ^ 63 }
+    requires opened { IsAsOpened (R.opened log) (R.told log) }
+    ensures run { IfOk result (λ e. IsEndedRun (handed (D.told disk) (Some (D.space_pages disk)) (Some (D.fault_count disk))
+        (R.told log) (Some (R.fault_count log)))
+        (senses D.page_size D.tells D.told D.space_pages D.fault_count) (reports R.told R.fault_count)
+        script.now e.fault (e.trail ∷ []) (e.disk ∷ []) (Some e.redo)) }
+    ensures fault { IfOk result (λ e. IfSome e.fault (λ f. IsFlushFault f)) }
 {
     let config = script.config();
+    let mut redo = match Redo::start(alloc, log, config.lsn) {
+        Ok(redo) => redo,
+        Err(_) => return Err(OutOfMemory),
+    };
     let mut desk = match Desk::new(alloc, config, 0, disk) {
         Ok(desk) => desk,
         Err(_) => return Err(OutOfMemory),
     };
     let mut worker = Worker::new(alloc, 1);
-    worker.work(alloc, &mut desk, script.commands())?;
-    let fault = close(&mut desk)?;
+    worker.work(alloc, &mut desk, &mut redo, script.commands())?;
+    let fault = close(&mut desk, &mut redo)?;
     let (disk, history) = desk.end();
+    let redo = redo.close();
     let account = worker.into_account();
     let mut room = Vec::new(alloc);
     room.reserve(history.len() + account.len())?;
     let mut accounts = Vec::new(alloc);
     accounts.push(account)?;
     one_account_merges();
+    dirty_pages_are_apart();
+    a_clean_history_is_durable();
+    clean_disk_holds_the_values::<D>();
     let trail = merge(config.first, history, accounts, room);
-    Ok(Ended { trail, disk, fault })
+    Ok(Ended {
+        trail,
+        disk,
+        redo,
+        fault,
+    })
 }
 
 /// The trail and the disk in lists.
@@ -126,13 +185,21 @@ fn write_text<K: Sink>(out: &mut K, text: &[u8], refused: bool) -> u8
     if refused { 1 } else { 0 }
 }
 
-/// Writes the trail's text, and answers the trail with the disk.
-fn told<D: PageDisk, K: Sink>(alloc: Global, out: &mut K, trail: Trail, disk: D) -> Outcome<D>
+/// Writes the trail's text, and answers the trail with the disk and the log.
+fn told<D: PageDisk, R: RedoDisk, K: Sink>(
+    alloc: Global,
+    out: &mut K,
+    trail: Trail,
+    disk: D,
+    redo: RedoEnd<R>,
+) -> Outcome<D, R>
     ensures statuses { (result.status ≡ 0) ⊎ (result.status ≡ 1) ⊎ (result.status ≡ 5) ⊎ (result.status ≡ 7) }
     ensures line { result.line ≡ 0 }
     ensures fault { result.fault ≡ None }
-    ensures given { result.status ≢ 7 → (result.trails.items ≡ trail ∷ []) × (result.disks.items ≡ disk ∷ []) }
-    ensures bare { result.status ≡ 7 → (result.trails.items ≡ []) × (result.disks.items ≡ []) × (out.new ≡ out.old) }
+    ensures given { result.status ≢ 7 → (result.trails.items ≡ trail ∷ []) × (result.disks.items ≡ disk ∷ [])
+        × (result.redo ≡ Some redo) }
+    ensures bare { result.status ≡ 7 → (result.trails.items ≡ []) × (result.disks.items ≡ []) × (result.redo ≡ None)
+        × (out.new ≡ out.old) }
     ensures written { (result.status ≡ 0) ⊎ (result.status ≡ 1) → IsWritten (K.held out.old) (K.held out.new) (trail ∷ []) }
     ensures refused { (result.status ≡ 0) ⊎ (result.status ≡ 1) → (result.status ≡ 1) ↔ IsTrue (has_refusal (trail ∷ [])) }
     ensures cut { result.status ≡ 5 → Rose (K.fault_count out.old) (K.fault_count out.new) × IsWrittenInPart (K.held out.old) (K.held out.new) (trail ∷ []) }
@@ -152,37 +219,79 @@ fn told<D: PageDisk, K: Sink>(alloc: Global, out: &mut K, trail: Trail, disk: D)
         fault: None,
         trails,
         disks,
+        redo: Some(redo),
     }
 }
 
-/// Runs a script that was read, on the disk that the shelf hands out for instance 0.
+/// A log that is too long for the script's `lsn`, handed back as it was opened.
+fn too_long<D: PageDisk, R: RedoDisk>(alloc: Global, log: R) -> Outcome<D, R>
+    ensures status { result.status ≡ 3 }
+    ensures line { result.line ≡ 0 }
+    ensures fault { result.fault ≡ None }
+    ensures bare { (result.trails.items ≡ []) × (result.disks.items ≡ []) }
+    ensures redo { IsSomeAnd result.redo (λ r. (r.disk ≡ log) × (r.end ≡ R.opened log) × (r.durable ≡ R.opened log)) }
+{
+    let end = log.end();
+    let mut outcome = bare(alloc, 3, 0);
+    outcome.redo = Some(RedoEnd {
+        disk: log,
+        end,
+        durable: end,
+    });
+    outcome
+}
+
+/// Runs a script that was read, on the disk that the shelf hands out for instance 0, and its log.
 fn run_script<K: Sink, H: Shelf>(
     alloc: Global,
     script: &Script,
     out: &mut K,
     shelf: &mut H,
-) -> Outcome<H::Disk>
+) -> Outcome<H::Disk, H::Redo>
     requires script { IsWithin script.now }
-    ensures statuses { IsRunStatus result.status }
+    ensures statuses { (result.status ≡ 3) ⊎ IsRunStatus result.status }
     ensures line { result.line ≡ 0 }
     ensures opening { result.status ≡ 6 → result.fault ≡ None → Rose (H.fault_count shelf.old) (H.fault_count shelf.new) }
-    ensures ended { HasEnded result.status result.fault → IsEndedRun (H.disk_told shelf.old 0) (H.disk_spaces shelf.old 0) (H.disk_faults shelf.old 0) H.Disk.told H.Disk.space_pages H.Disk.fault_count script.now result.fault result.trails.items result.disks.items }
-    ensures bare { (HasEnded result.status result.fault → ⊥) → (result.trails.items ≡ []) × (result.disks.items ≡ []) × (result.fault ≡ None) }
-    ensures fault { IfSome result.fault (λ f. (result.status ≡ 6) × IsDiskFault f) }
+    ensures ended { HasEnded result.status result.fault → IsEndedRun (handed (H.disk_told shelf.old 0) (H.disk_spaces shelf.old 0) (H.disk_faults shelf.old 0)
+        (H.log_told shelf.old) (H.log_faults shelf.old))
+        (senses H.Disk.page_size H.Disk.tells H.Disk.told H.Disk.space_pages H.Disk.fault_count)
+        (reports H.Redo.told H.Redo.fault_count)
+        script.now result.fault result.trails.items result.disks.items result.redo }
+    ensures long { result.status ≡ 3 → IsSomeAnd result.redo (λ r. (r.durable ≡ r.end) × (2 ^ 63 < script.now.config.lsn + r.end)) }
+    ensures bare { (HasEnded result.status result.fault → ⊥) → (result.trails.items ≡ []) × (result.disks.items ≡ [])
+        × (result.fault ≡ None) × (result.status ≢ 3 → result.redo ≡ None) }
+    ensures fault { IfSome result.fault (λ f. (result.status ≡ 6) × IsFlushFault f) }
     ensures written { (result.status ≡ 0) ⊎ (result.status ≡ 1) → IsWritten (K.held out.old) (K.held out.new) result.trails.items }
     ensures refused { (result.status ≡ 0) ⊎ (result.status ≡ 1) → (result.status ≡ 1) ↔ IsTrue (has_refusal result.trails.items) }
-    ensures cut { result.status ≡ 5 → Rose (K.fault_count out.old) (K.fault_count out.new) × IsWrittenInPart (K.held out.old) (K.held out.new) result.trails.items }
-    ensures unwritten { (result.status ≡ 6) ⊎ (result.status ≡ 7) → out.new ≡ out.old }
-    ensures asked { H.asked shelf.old ≡ unasked → H.asked shelf.new ≡ record { config = Some script.now.config; disks = 1; strayed = false } }
+    ensures cut { result.status ≡ 5 → Rose (K.fault_count out.old) (K.fault_count out.new)
+        × IsWrittenInPart (K.held out.old) (K.held out.new) result.trails.items }
+    ensures unwritten { (result.status ≡ 3) ⊎ (result.status ≡ 6) ⊎ (result.status ≡ 7) → out.new ≡ out.old }
+    ensures asked { H.asked shelf.old ≡ unasked → (log : Bool)
+        × (H.asked shelf.new ≡ record { config = Some script.now.config; disks = 1; log = log; strayed = false }) }
 {
-    let Ok(disk) = shelf.disk(script.config(), 0) else {
+    let config = script.config();
+    let Ok(disk) = shelf.disk(config, 0) else {
         return bare(alloc, 6, 0);
     };
-    let Ok(Ended { trail, disk, fault }) = run_on(alloc, script, disk) else {
+    let Ok(log) = shelf.redo(config) else {
+        return bare(alloc, 6, 0);
+    };
+    if LSN_MAX - config.lsn < log.end() {
+        return too_long(alloc, log);
+    }
+    let Ok(
+        Ended {
+            trail,
+            disk,
+            redo,
+            fault,
+        },
+    ) = run_on(alloc, script, disk, log)
+    else {
         return bare(alloc, 7, 0);
     };
     if fault.is_none() {
-        return told(alloc, out, trail, disk);
+        return told(alloc, out, trail, disk, redo);
     }
     match listed(alloc, trail, disk) {
         Ok((trails, disks)) => Outcome {
@@ -191,6 +300,7 @@ fn run_script<K: Sink, H: Shelf>(
             fault,
             trails,
             disks,
+            redo: Some(redo),
         },
         Err(_) => bare(alloc, 7, 0),
     }
@@ -207,11 +317,11 @@ fn judge_words(alloc: Global, words: &[String]) -> Result<(), WordsErr>
     }
 }
 
-/// Runs the script of a source on the disk of a shelf, and writes the text of the trail.
+/// Runs the script of a source on the disk and the log of a shelf, and writes the text of the trail.
 ///
 /// The words are those behind the program's name: `run SPACE FILE LOG`. What the statuses say stands at [`Outcome`].
 /// Whatever the words, the script's bytes and the devices' answers: the trail is one lawful history of a plain page map, in which
-/// thread 1 does what its commands say, each call once and in order.
+/// thread 1 does what its commands say, each call once and in order; the disk holds what the trail says, and the log keeps each change.
 pub fn run<R, S: Source, K: Sink, H: Shelf>(
     rt: &R,
     alloc: Global,
@@ -219,25 +329,31 @@ pub fn run<R, S: Source, K: Sink, H: Shelf>(
     script: &mut S,
     out: &mut K,
     shelf: &mut H,
-) -> Outcome<H::Disk>
+) -> Outcome<H::Disk, H::Redo>
     ensures statuses { result.status ≤ 7 }
     ensures usage { result.status ≡ 2 → AreRun (map string_bytes words.now) → ⊥ }
     ensures usage_only { (AreRun (map string_bytes words.now) → ⊥) → (result.status ≡ 2) ⊎ (result.status ≡ 7) }
     ensures unread { result.status ≡ 2 → (script.new ≡ script.old) × (shelf.new ≡ shelf.old) }
     ensures read_fault { result.status ≡ 4 → Rose (S.fault_count script.old) (S.fault_count script.new) }
-    ensures bad_script { result.status ≡ 3 → (bytes : List ℕ) → S.left script.old ≡ Some bytes → IsBad bytes result.line }
+    ensures bad_script { result.status ≡ 3 → ((bytes : List ℕ) → S.left script.old ≡ Some bytes → IsBad bytes result.line)
+        ⊎ IsLongLog (S.left script.old) result.line result.redo }
     ensures bad_only { (bytes : List ℕ) (n : ℕ) → S.left script.old ≡ Some bytes → IsBad bytes n → IsNoScript result.status result.line n }
     ensures line { result.status ≢ 3 → result.line ≡ 0 }
     ensures opening { result.status ≡ 6 → result.fault ≡ None → Rose (H.fault_count shelf.old) (H.fault_count shelf.new) }
-    ensures ended { HasEnded result.status result.fault → IsEnded (S.left script.old) (H.disk_told shelf.old 0) (H.disk_spaces shelf.old 0) (H.disk_faults shelf.old 0) H.Disk.told H.Disk.space_pages H.Disk.fault_count result.fault result.trails.items result.disks.items }
+    ensures ended { HasEnded result.status result.fault → IsEnded (S.left script.old) (handed (H.disk_told shelf.old 0) (H.disk_spaces shelf.old 0) (H.disk_faults shelf.old 0)
+        (H.log_told shelf.old) (H.log_faults shelf.old))
+        (senses H.Disk.page_size H.Disk.tells H.Disk.told H.Disk.space_pages H.Disk.fault_count)
+        (reports H.Redo.told H.Redo.fault_count)
+        result.fault result.trails.items result.disks.items result.redo }
     ensures read_whole { HasEnded result.status result.fault → (bytes : List ℕ) → S.left script.old ≡ Some bytes → S.left script.new ≡ Some [] }
-    ensures bare { (HasEnded result.status result.fault → ⊥) → (result.trails.items ≡ []) × (result.disks.items ≡ []) × (result.fault ≡ None) }
-    ensures fault { IfSome result.fault (λ f. (result.status ≡ 6) × IsDiskFault f) }
+    ensures bare { (HasEnded result.status result.fault → ⊥) → (result.trails.items ≡ []) × (result.disks.items ≡ [])
+        × (result.fault ≡ None) × (result.status ≢ 3 → result.redo ≡ None) }
+    ensures fault { IfSome result.fault (λ f. (result.status ≡ 6) × IsFlushFault f) }
     ensures written { (result.status ≡ 0) ⊎ (result.status ≡ 1) → IsWritten (K.held out.old) (K.held out.new) result.trails.items }
     ensures refused { (result.status ≡ 0) ⊎ (result.status ≡ 1) → (result.status ≡ 1) ↔ IsTrue (has_refusal result.trails.items) }
     ensures cut { result.status ≡ 5 → Rose (K.fault_count out.old) (K.fault_count out.new) × IsWrittenInPart (K.held out.old) (K.held out.new) result.trails.items }
     ensures unwritten { IsSilent result.status → out.new ≡ out.old }
-    ensures unasked { (result.status ≡ 3) ⊎ (result.status ≡ 4) → shelf.new ≡ shelf.old }
+    ensures unasked { (result.status ≡ 4) ⊎ ((result.status ≡ 3) × (result.redo ≡ None)) → shelf.new ≡ shelf.old }
     ensures asked { H.asked shelf.old ≡ unasked → (H.asked shelf.new ≡ unasked) ⊎ IsAskedOnce (S.left script.old) (H.asked shelf.new) }
 {
     let _rt = rt;

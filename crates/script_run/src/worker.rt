@@ -8,12 +8,18 @@ ghost use Rattle.trail.specs.Opening.{Opening};
 ghost use Rattle.trail.specs.declared.event.Event.{Event};
 ghost use Rattle.desk.specs.Steps.{home_image};
 ghost use Rattle.script_text.specs.Within.{IsInRange};
-ghost use Rattle.script_run.specs.Work.{senses, SoFar, Does, noted_at, Along, AreHoused, Progress, Ending, Worked};
+ghost use Rattle.redo_mark.specs.Logs.{Seen, IsLater};
+ghost use Rattle.trail.specs.Dirt.{log_end};
+ghost use Rattle.desk.specs.Base.{Opened};
+ghost use Rattle.desk.specs.Behind.{IsBehind};
+ghost use Rattle.script_run.specs.Openings.{Start};
+ghost use Rattle.script_run.specs.Work.{senses, SoFar, StandsBehind, Does, noted_at, Along, AreHoused, Progress, Ending, Worked};
 ghost use Rattle.script_run.specs.Workers.{working};
 
-use desk::{Caller, Desk, FixErr};
+use desk::{Caller, Desk, FixErr, PutErr};
 use page_disk::PageDisk;
 use page_ids::{Bytes, OutOfMemory, PageId};
+use redo_mark::{Redo, RedoDisk};
 use script_text::script::Command;
 use std::alloc::Global;
 use trail::{Call, Cause, Held, Note, Receipt};
@@ -83,10 +89,12 @@ impl Worker {
     ) -> Result<(), OutOfMemory>
         requires places { desk.old.state.config.first + length desk.old.state.history + 2 < 2 ^ 64 }
         requires number { self.old.next + 1 < 2 ^ 32 }
-        ensures along { OnOk result (Along (senses D.page_size D.told D.space_pages D.fault_count) 1 desk.old.state desk.new.state (working self.old) (working self.new)) }
-        ensures done { OnOk result ((o : Opening) (low : ℕ) (past : List Event)
-            → SoFar (senses D.page_size D.told D.space_pages D.fault_count) o low desk.old.state (working self.old) past []
-            → Does (senses D.page_size D.told D.space_pages D.fault_count) o low desk.new.state (working self.new) past (Command.Fix page now)) }
+        ensures along { OnOk result ((log : Seen) → Along (senses D.page_size D.tells D.told D.space_pages D.fault_count) 1
+            desk.old.state desk.new.state log log (working self.old) (working self.new)) }
+        ensures done { OnOk result ((o : Opening) (start : Start) (log : Seen) (past : List Event)
+            → SoFar (senses D.page_size D.tells D.told D.space_pages D.fault_count) o start desk.old.state log (working self.old) past []
+            → StandsBehind (senses D.page_size D.tells D.told D.space_pages D.fault_count) o start desk.old.state
+            → Does (senses D.page_size D.tells D.told D.space_pages D.fault_count) o start desk.new.state log (working self.new) past (Command.Fix page now)) }
     {
         self.fixed.reserve(1)?;
         let number = self.next;
@@ -140,6 +148,26 @@ impl Worker {
         Ok(())
     }
 
+    /// Leaves the receipt of a put on a page that it doesn't hold.
+    fn note_unheld_put(
+        &mut self,
+        place: u64,
+        page: PageId,
+        at: u32,
+        bytes: &[u8],
+    ) -> Result<(), OutOfMemory>
+        requires number { self.old.next + 1 < 2 ^ 32 }
+        ensures noted { OnOk result (working self.new
+            ≡ noted_at place (working self.old) (Note.Refused (Call.Put page at bytes.now) Cause.Unheld)) }
+        ensures fixed { self.new.fixed ≡ self.old.fixed }
+    {
+        let alloc = *self.account.allocator();
+        let bytes = Bytes::of(Vec::from_slice(alloc, bytes)?);
+        let call = Call::Put { page, at, bytes };
+        let cause = Cause::Unheld;
+        self.note(place, Note::Refused { call, cause })
+    }
+
     /// Where the newest fix of the page stands.
     fn newest(&self, page: PageId) -> Option<usize>
         ensures some { IfSome result (λ at. (at < length self.now.fixed.items) × (slice_get self.now.fixed.items at ≡ newest_of (reverse self.now.fixed.items) page) × IsSome (newest_of (reverse self.now.fixed.items) page)) }
@@ -169,10 +197,12 @@ impl Worker {
         requires number { self.old.next + 1 < 2 ^ 32 }
         requires housed { AreHoused desk.now.state.history (reverse self.old.fixed.items) }
         requires range { IsInRange desk.now.state.config.page (Command.Read page at len) }
-        ensures along { OnOk result (Along (senses D.page_size D.told D.space_pages D.fault_count) 1 desk.now.state desk.now.state (working self.old) (working self.new)) }
-        ensures done { OnOk result ((o : Opening) (low : ℕ) (past : List Event)
-            → SoFar (senses D.page_size D.told D.space_pages D.fault_count) o low desk.now.state (working self.old) past []
-            → Does (senses D.page_size D.told D.space_pages D.fault_count) o low desk.now.state (working self.new) past (Command.Read page at len)) }
+        ensures along { OnOk result ((log : Seen) → Along (senses D.page_size D.tells D.told D.space_pages D.fault_count) 1
+            desk.now.state desk.now.state log log (working self.old) (working self.new)) }
+        ensures done { OnOk result ((o : Opening) (start : Start) (log : Seen) (past : List Event)
+            → SoFar (senses D.page_size D.tells D.told D.space_pages D.fault_count) o start desk.now.state log (working self.old) past []
+            → StandsBehind (senses D.page_size D.tells D.told D.space_pages D.fault_count) o start desk.now.state
+            → Does (senses D.page_size D.tells D.told D.space_pages D.fault_count) o start desk.now.state log (working self.new) past (Command.Read page at len)) }
     {
         let place = desk.mark();
         if self.newest(page).is_none() {
@@ -198,10 +228,12 @@ impl Worker {
     fn unfix<D: PageDisk>(&mut self, desk: &Desk<D>, page: PageId) -> Result<(), OutOfMemory>
         requires places { desk.now.state.config.first + length desk.now.state.history < 2 ^ 64 }
         requires number { self.old.next + 1 < 2 ^ 32 }
-        ensures along { OnOk result (Along (senses D.page_size D.told D.space_pages D.fault_count) 1 desk.now.state desk.now.state (working self.old) (working self.new)) }
-        ensures done { OnOk result ((o : Opening) (low : ℕ) (past : List Event)
-            → SoFar (senses D.page_size D.told D.space_pages D.fault_count) o low desk.now.state (working self.old) past []
-            → Does (senses D.page_size D.told D.space_pages D.fault_count) o low desk.now.state (working self.new) past (Command.Unfix page)) }
+        ensures along { OnOk result ((log : Seen) → Along (senses D.page_size D.tells D.told D.space_pages D.fault_count) 1
+            desk.now.state desk.now.state log log (working self.old) (working self.new)) }
+        ensures done { OnOk result ((o : Opening) (start : Start) (log : Seen) (past : List Event)
+            → SoFar (senses D.page_size D.tells D.told D.space_pages D.fault_count) o start desk.now.state log (working self.old) past []
+            → StandsBehind (senses D.page_size D.tells D.told D.space_pages D.fault_count) o start desk.now.state
+            → Does (senses D.page_size D.tells D.told D.space_pages D.fault_count) o start desk.now.state log (working self.new) past (Command.Unfix page)) }
     {
         let place = desk.mark();
         let Some(at) = self.newest(page) else {
@@ -222,47 +254,101 @@ impl Worker {
         Ok(())
     }
 
+    /// Changes bytes of a page that it holds. A refusal is an answer too.
+    fn put<D: PageDisk, R: RedoDisk>(
+        &mut self,
+        desk: &mut Desk<D>,
+        redo: &mut Redo<R>,
+        page: PageId,
+        at: u32,
+        bytes: &[u8],
+    ) -> Result<(), OutOfMemory>
+        requires places { desk.old.state.config.first + length desk.old.state.history + 1 < 2 ^ 64 }
+        requires number { self.old.next + 1 < 2 ^ 32 }
+        requires housed { AreHoused desk.old.state.history (reverse self.old.fixed.items) }
+        requires range { IsInRange desk.old.state.config.page (Command.Put page at bytes.now) }
+        requires known { log_end desk.old.state.history ≤ redo.old.seen.end }
+        ensures along { OnOk result (Along (senses D.page_size D.tells D.told D.space_pages D.fault_count) 1
+            desk.old.state desk.new.state redo.old.seen redo.new.seen (working self.old) (working self.new)) }
+        ensures done { OnOk result ((o : Opening) (start : Start) (past : List Event)
+            → SoFar (senses D.page_size D.tells D.told D.space_pages D.fault_count) o start desk.old.state redo.old.seen (working self.old) past []
+            → Does (senses D.page_size D.tells D.told D.space_pages D.fault_count) o start desk.new.state redo.new.seen (working self.new) past
+            (Command.Put page at bytes.now)) }
+        ensures opening { redo.new.opening ≡ redo.old.opening }
+    {
+        let number = self.next;
+        if self.newest(page).is_none() {
+            return self.note_unheld_put(desk.mark(), page, at, bytes);
+        }
+        let by = Caller {
+            pass: self.pass,
+            number,
+        };
+        match desk.put_at(redo, by, page, at, bytes) {
+            Ok(_) => {
+                self.next = number + 1;
+                Ok(())
+            }
+            Err(PutErr::OutOfMemory) => Err(OutOfMemory),
+            Err(PutErr::LogSpent { .. }) => {
+                self.next = number + 1;
+                Ok(())
+            }
+        }
+    }
+
     /// Does one command.
-    fn step<D: PageDisk>(
+    fn step<D: PageDisk, R: RedoDisk>(
         &mut self,
         alloc: Global,
         desk: &mut Desk<D>,
-        command: Command,
+        redo: &mut Redo<R>,
+        command: &Command,
     ) -> Result<(), OutOfMemory>
         requires places { desk.old.state.config.first + length desk.old.state.history + 2 < 2 ^ 64 }
         requires number { self.old.next + 1 < 2 ^ 32 }
         requires housed { AreHoused desk.old.state.history (reverse self.old.fixed.items) }
-        requires range { IsInRange desk.old.state.config.page command }
-        ensures along { OnOk result (Along (senses D.page_size D.told D.space_pages D.fault_count) 1 desk.old.state desk.new.state (working self.old) (working self.new)) }
-        ensures done { OnOk result ((o : Opening) (low : ℕ) (past : List Event)
-            → SoFar (senses D.page_size D.told D.space_pages D.fault_count) o low desk.old.state (working self.old) past []
-            → Does (senses D.page_size D.told D.space_pages D.fault_count) o low desk.new.state (working self.new) past command) }
+        requires range { IsInRange desk.old.state.config.page command.now }
+        requires known { log_end desk.old.state.history ≤ redo.old.seen.end }
+        ensures along { OnOk result (Along (senses D.page_size D.tells D.told D.space_pages D.fault_count) 1
+            desk.old.state desk.new.state redo.old.seen redo.new.seen (working self.old) (working self.new)) }
+        ensures done { OnOk result ((o : Opening) (start : Start) (past : List Event)
+            → SoFar (senses D.page_size D.tells D.told D.space_pages D.fault_count) o start desk.old.state redo.old.seen (working self.old) past []
+            → StandsBehind (senses D.page_size D.tells D.told D.space_pages D.fault_count) o start desk.old.state
+            → Does (senses D.page_size D.tells D.told D.space_pages D.fault_count) o start desk.new.state redo.new.seen (working self.new) past command.now) }
+        ensures opening { redo.new.opening ≡ redo.old.opening }
     {
         match command {
-            Command::Fix { page, now } => self.fix(desk, page, now),
-            Command::Read { page, at, len } => self.read(alloc, desk, page, at, len),
-            Command::Unfix { page } => self.unfix(desk, page),
+            Command::Fix { page, now } => self.fix(desk, *page, *now),
+            Command::Read { page, at, len } => self.read(alloc, desk, *page, *at, *len),
+            Command::Put { page, at, bytes } => self.put(desk, redo, *page, *at, bytes.as_slice()),
+            Command::Unfix { page } => self.unfix(desk, *page),
         }
     }
 
     /// Does the commands, one after the other.
-    fn do_all<D: PageDisk>(
+    fn do_all<D: PageDisk, R: RedoDisk>(
         &mut self,
         alloc: Global,
         desk: &mut Desk<D>,
+        redo: &mut Redo<R>,
         commands: &[Command],
     ) -> Result<(), OutOfMemory>
         requires places { desk.old.state.config.first + length desk.old.state.history + 2 * length commands.now + 2 < 2 ^ 64 }
         requires number { self.old.next + length commands.now < 2 ^ 32 }
         requires housed { AreHoused desk.old.state.history (reverse self.old.fixed.items) }
         requires ranges { AllByRecursion (IsInRange desk.old.state.config.page) commands.now }
-        ensures along { OnOk result (Along (senses D.page_size D.told D.space_pages D.fault_count) (length commands.now) desk.old.state desk.new.state (working self.old) (working self.new)) }
-        ensures done { OnOk result ((o : Opening) (low : ℕ) (past : List Event)
-            → SoFar (senses D.page_size D.told D.space_pages D.fault_count) o low desk.old.state (working self.old) past []
-            → Progress (senses D.page_size D.told D.space_pages D.fault_count) o low desk.new.state (working self.new) past commands.now []) }
+        requires known { log_end desk.old.state.history ≤ redo.old.seen.end }
+        ensures along { OnOk result (Along (senses D.page_size D.tells D.told D.space_pages D.fault_count) (length commands.now)
+            desk.old.state desk.new.state redo.old.seen redo.new.seen (working self.old) (working self.new)) }
+        ensures done { OnOk result ((o : Opening) (start : Start) (past : List Event)
+            → SoFar (senses D.page_size D.tells D.told D.space_pages D.fault_count) o start desk.old.state redo.old.seen (working self.old) past []
+            → StandsBehind (senses D.page_size D.tells D.told D.space_pages D.fault_count) o start desk.old.state
+            → Progress (senses D.page_size D.tells D.told D.space_pages D.fault_count) o start desk.new.state redo.new.seen (working self.new) past commands.now []) }
+        ensures opening { redo.new.opening ≡ redo.old.opening }
     {
         for command in commands {
-            self.step(alloc, desk, *command)?;
+            self.step(alloc, desk, redo, command)?;
         }
         Ok(())
     }
@@ -275,9 +361,9 @@ impl Worker {
         ensures fewer { OnOk result (length self.new.fixed.items + 1 ≡ length self.old.fixed.items) }
         ensures next { OnOk result (self.new.next ≡ self.old.next + 1) }
         ensures pass { OnOk result (self.new.pass ≡ self.old.pass) }
-        ensures done { OnOk result ((o : Opening) (low : ℕ) (past : List Event) (commands : List Command)
-            → Ending (senses D.page_size D.told D.space_pages D.fault_count) o low desk.now.state (working self.old) past commands
-            → Ending (senses D.page_size D.told D.space_pages D.fault_count) o low desk.now.state (working self.new) past commands) }
+        ensures done { OnOk result ((o : Opening) (start : Start) (log : Seen) (past : List Event) (commands : List Command)
+            → Ending (senses D.page_size D.tells D.told D.space_pages D.fault_count) o start desk.now.state log (working self.old) past commands
+            → Ending (senses D.page_size D.tells D.told D.space_pages D.fault_count) o start desk.now.state log (working self.new) past commands) }
     {
         let place = desk.mark();
         let Some(held) = self.fixed.pop() else {
@@ -294,9 +380,9 @@ impl Worker {
         requires places { desk.now.state.config.first + length desk.now.state.history < 2 ^ 64 }
         requires number { self.old.next + length self.old.fixed.items < 2 ^ 32 }
         ensures pass { OnOk result (self.new.pass ≡ self.old.pass) }
-        ensures done { OnOk result ((o : Opening) (low : ℕ) (past : List Event) (commands : List Command)
-            → Ending (senses D.page_size D.told D.space_pages D.fault_count) o low desk.now.state (working self.old) past commands
-            → Worked (senses D.page_size D.told D.space_pages D.fault_count) o low desk.now.state (working self.new) past commands) }
+        ensures done { OnOk result ((o : Opening) (start : Start) (log : Seen) (past : List Event) (commands : List Command)
+            → Ending (senses D.page_size D.tells D.told D.space_pages D.fault_count) o start desk.now.state log (working self.old) past commands
+            → Worked (senses D.page_size D.tells D.told D.space_pages D.fault_count) o start desk.now.state log (working self.new) past commands) }
     {
         while !self.fixed.is_empty() {
             self.give_back(desk)?;
@@ -305,25 +391,34 @@ impl Worker {
     }
 
     /// Does the commands of its thread, and gives back what it then holds.
-    pub fn work<D: PageDisk>(
+    pub fn work<D: PageDisk, R: RedoDisk>(
         &mut self,
         alloc: Global,
         desk: &mut Desk<D>,
+        redo: &mut Redo<R>,
         commands: &[Command],
     ) -> Result<(), OutOfMemory>
         requires places { desk.old.state.config.first + length desk.old.state.history + 2 * length commands.now + 2 < 2 ^ 64 }
         requires number { self.old.next + 2 * length commands.now < 2 ^ 32 }
         requires new { length self.old.fixed.items ≡ 0 }
         requires ranges { AllByRecursion (IsInRange desk.old.state.config.page) commands.now }
+        requires known { log_end desk.old.state.history ≤ redo.old.seen.end }
         ensures config { OnOk result (desk.new.state.config ≡ desk.old.state.config) }
         ensures grown { OnOk result (length desk.new.state.history ≤ length desk.old.state.history + 2 * length commands.now) }
-        ensures disk { OnOk result (IsSameDisk D.page_size D.told D.space_pages D.fault_count desk.old.state.disk desk.new.state.disk) }
+        ensures disk { OnOk result (IsSameDisk D.page_size D.tells D.told D.space_pages D.fault_count
+            desk.old.state.disk desk.new.state.disk) }
+        ensures behind { OnOk result ((o : Opened) → IsBehind D.tells D.told D.space_pages o desk.old.state
+            → IsBehind D.tells D.told D.space_pages o desk.new.state) }
+        ensures log { OnOk result (IsLater redo.old.seen redo.new.seen) }
+        ensures known { OnOk result (log_end desk.new.state.history ≤ redo.new.seen.end) }
+        ensures opening { redo.new.opening ≡ redo.old.opening }
         ensures pass { OnOk result (self.new.pass ≡ self.old.pass) }
-        ensures done { OnOk result ((o : Opening) (low : ℕ) (past : List Event)
-            → SoFar (senses D.page_size D.told D.space_pages D.fault_count) o low desk.old.state (working self.old) past []
-            → Worked (senses D.page_size D.told D.space_pages D.fault_count) o low desk.new.state (working self.new) past commands.now) }
+        ensures done { OnOk result ((o : Opening) (start : Start) (past : List Event)
+            → SoFar (senses D.page_size D.tells D.told D.space_pages D.fault_count) o start desk.old.state redo.old.seen (working self.old) past []
+            → StandsBehind (senses D.page_size D.tells D.told D.space_pages D.fault_count) o start desk.old.state
+            → Worked (senses D.page_size D.tells D.told D.space_pages D.fault_count) o start desk.new.state redo.new.seen (working self.new) past commands.now) }
     {
-        self.do_all(alloc, desk, commands)?;
+        self.do_all(alloc, desk, redo, commands)?;
         self.give_back_all(desk)
     }
 }

@@ -8,16 +8,17 @@ use Rattle.std.proofs.lemmas.Option.{option_and_then_some}
 use Rattle.std.proofs.lemmas.Slice.Eq.{bytes_eq-Decides}
 use Rattle.std.proofs.lemmas.List.Elements.{All-append, All-cons, All-from_recursion}
 use Rattle.std.proofs.lemmas.List.Splits.{join_with_byte-slice_split}
-use Rattle.page_ids.specs.Spelling.{page_text}
+use Rattle.page_ids.specs.Spelling.{page_text, hex}
 use Rattle.page_ids.specs.declared.ids.PageId.{PageId}
 use Rattle.script_text.specs.Text.{command_words, item_words, setting_name, is_nothing, IsPageId, IsTyped, IsTypedItem, IsSpelled}
-use Rattle.script_text.specs.Reading.{number_of, cut_at, page_of, keyword_text, found, keywords, keyword_of, one, two, three, fix_of, read_of, unfix_of, thread_of, set_of, said_by, words_say, line_says}
+use Rattle.script_text.specs.Reading.{number_of, cut_at, page_of, hex_of, keyword_text, found, keywords, keyword_of, one, two, three, fix_of, read_of, put_of, unfix_of, thread_of, set_of, said_by, words_say, line_says}
 use Rattle.script_text.proofs.Numbers.{number_of-decimal, number_is}
+use Rattle.script_text.proofs.Hex.{hex_read, hex_is, hex_lacks}
 use Rattle.script_text.proofs.Cuts.{Lacks, decimal_lacks, words_joined, cut_here, cut_is}
 use Rattle.script_text.specs.declared.script.Command.{Command}
-use Rattle.script_text.specs.declared.script.Command.TheVariants.{Fix, Read, Unfix}
+use Rattle.script_text.specs.declared.script.Command.TheVariants.{Fix, Read, Put, Unfix}
 use Rattle.script_text.specs.declared.lines.Setting.{Setting}
-use Rattle.script_text.specs.declared.lines.Setting.TheVariants.{Page, Frames, Size, Max}
+use Rattle.script_text.specs.declared.lines.Setting.TheVariants.{Page, Frames, Size, Max, Lsn}
 use Rattle.script_text.specs.declared.lines.Item.{Item}
 use Rattle.script_text.specs.declared.lines.Item.TheVariants.{Nothing, Set, Thread, Does}
 use Rattle.script_text.specs.declared.lines.Keyword.{Keyword}
@@ -86,6 +87,7 @@ setting_found Page = refl
 setting_found Frames = refl
 setting_found Size = refl
 setting_found Max = refl
+setting_found Lsn = refl
 
 setting_lacks : (name : Setting) → Lacks 32 (setting_name name)
 setting_lacks name = All-from_recursion (λ x. (x == 32) ≡ false) (setting_name name) (each name)
@@ -95,6 +97,7 @@ setting_lacks name = All-from_recursion (λ x. (x == 32) ≡ false) (setting_nam
     each Frames = search rules
     each Size = search rules
     each Max = search rules
+    each Lsn = search rules
 
 literal_lacks : (w : List ℕ) → AllByRecursion (λ x. (x == 32) ≡ false) w → Lacks 32 w
 literal_lacks w h = All-from_recursion (λ x. (x == 32) ≡ false) w h
@@ -134,6 +137,15 @@ read_words args i e = three_some _ args i e (λ p x y shape e1. option_and_then_
     let words : args ≡ page_text page ∷ decimal at ∷ decimal len ∷ [] = simp (shape, a.0, b.0, c.0) in
     subst (λ (j : Item). IsWords j (codes "read" ∷ args)) same (ap (λ r. codes "read" ∷ r) words, (a.1, b.1, c.1))))))
 
+put_words : (args : List (List ℕ)) (i : Item) → put_of args ≡ Some i → IsWords i (codes "put" ∷ args)
+put_words args i e = three_some _ args i e (λ p x y shape e1. option_and_then_some _ (page_of p) i e1 (λ page pe e2. option_and_then_some _ (number_of (2 ^ 32) x) i e2 (λ at xe e3. option_and_then_some _ (hex_of y) i e3 (λ bytes ye e4.
+    let a = page_is p page pe in
+    let b = number_is (2 ^ 32) at x (lit≤ tt) xe in
+    let c = hex_is y bytes ye in
+    let same : Does (Put page at bytes) ≡ i = cc in
+    let words : args ≡ page_text page ∷ decimal at ∷ hex bytes ∷ [] = simp (shape, a.0, b.0, c.0) in
+    subst (λ (j : Item). IsWords j (codes "put" ∷ args)) same (ap (λ r. codes "put" ∷ r) words, (a.1, b.1, c.1))))))
+
 unfix_words : (args : List (List ℕ)) (i : Item) → unfix_of args ≡ Some i → IsWords i (codes "unfix" ∷ args)
 unfix_words args i e = one_some _ args i e (λ p shape e1. option_and_then_some _ (page_of p) i e1 (λ page pe e2.
     let a = page_is p page pe in
@@ -146,6 +158,7 @@ said_words (keyword.Set name) args i e = set_words name args i e
 said_words keyword.Thread args i e = thread_words args i e
 said_words keyword.Fix args i e = fix_words args i e
 said_words keyword.Read args i e = read_words args i e
+said_words keyword.Put args i e = put_words args i e
 said_words keyword.Unfix args i e = unfix_words args i e
 
 -- what is read is spelled so
@@ -182,6 +195,8 @@ command_read (Fix p now) line e h = by_words line (codes "fix") (page_text p ∷
     (rw (page_of-text p h.0) (rw (number_of-decimal (2 ^ 64) now h.1 h.1) refl)) e
 command_read (Read p at len) line e h = by_words line (codes "read") (page_text p ∷ decimal at ∷ decimal len ∷ []) (Does (Read p at len)) refl (literal_lacks (codes "read") (search rules)) (page_lacks p h.0, (number_lacks at (wide _ h.1), (number_lacks len (wide _ h.2), tt)))
     (rw (page_of-text p h.0) (rw (number_of-decimal (2 ^ 32) at (wide _ h.1) h.1) (rw (number_of-decimal (2 ^ 32) len (wide _ h.2) h.2) refl))) e
+command_read (Put p at bytes) line e h = by_words line (codes "put") (page_text p ∷ decimal at ∷ hex bytes ∷ []) (Does (Put p at bytes)) refl (literal_lacks (codes "put") (search rules)) (page_lacks p h.0, (number_lacks at (wide _ h.1), (hex_lacks bytes h.2, tt)))
+    (rw (page_of-text p h.0) (rw (number_of-decimal (2 ^ 32) at (wide _ h.1) h.1) (rw (hex_read bytes h.2) refl))) e
 command_read (Unfix p) line e h = by_words line (codes "unfix") (page_text p ∷ []) (Does (Unfix p)) refl (literal_lacks (codes "unfix") (search rules)) (page_lacks p h, tt)
     (rw (page_of-text p h) refl) e
 
@@ -193,6 +208,7 @@ set_something Page w = refl
 set_something Frames w = refl
 set_something Size w = refl
 set_something Max w = refl
+set_something Lsn w = refl
 
 pub spelled_is_read : (line : List ℕ) (i : Item) → IsSpelled i line → line_says line ≡ Some i
 spelled_is_read line Nothing h = let nothing : is_nothing line ≡ true = h in rw nothing refl

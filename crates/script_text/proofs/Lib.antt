@@ -1,5 +1,6 @@
 pub mod Numbers
 pub mod Cuts
+pub mod Hex
 pub mod Exact
 pub mod Taking
 pub mod Unique

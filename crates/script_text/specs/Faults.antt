@@ -8,7 +8,7 @@ use Rattle.page_ids.specs.declared.config.Config.{Config}
 use Rattle.page_ids.specs.declared.ids.PageId.{PageId}
 use Rattle.script_text.specs.Plan.{Plan, commands_of}
 use Rattle.script_text.specs.declared.script.Command.{Command}
-use Rattle.script_text.specs.declared.script.Command.TheVariants.{Fix, Read, Unfix}
+use Rattle.script_text.specs.declared.script.Command.TheVariants.{Fix, Read, Put, Unfix}
 
 -- an instance could have more frames than its table has places for
 abbrev pub has_too_many_frames : Config → Bool
@@ -31,6 +31,7 @@ abbrev pub fixed_pages : List Command → List PageId
 fixed_pages [] = []
 fixed_pages (Fix p now ∷ cs) = p ∷ fixed_pages cs
 fixed_pages (Read p at len ∷ cs) = fixed_pages cs
+fixed_pages (Put p at bytes ∷ cs) = fixed_pages cs
 fixed_pages (Unfix p ∷ cs) = fixed_pages cs
 
 -- whether a fix names the page

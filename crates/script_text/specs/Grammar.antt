@@ -7,9 +7,9 @@ use Rattle.page_ids.specs.declared.ids.PageSize.{PageSize}
 use Rattle.page_ids.specs.declared.ids.PageSize.TheVariants.{Kib4, Kib8, Kib16}
 use Rattle.script_text.specs.Text.{IsSpelled}
 use Rattle.script_text.specs.declared.script.Command.{Command}
-use Rattle.script_text.specs.declared.script.Command.TheVariants.{Fix, Read, Unfix}
+use Rattle.script_text.specs.declared.script.Command.TheVariants.{Fix, Read, Put, Unfix}
 use Rattle.script_text.specs.declared.lines.Setting.{Setting}
-use Rattle.script_text.specs.declared.lines.Setting.TheVariants.{Page, Frames, Size, Max}
+use Rattle.script_text.specs.declared.lines.Setting.TheVariants.{Page, Frames, Size, Max, Lsn}
 use Rattle.script_text.specs.declared.lines.Item.{Item}
 use Rattle.script_text.specs.declared.lines.Item.TheVariants.{Nothing, Set, Thread, Does}
 
@@ -36,7 +36,7 @@ usual = record {
 }
 
 abbrev pub nothing_said : SoFar
-nothing_said = record { config = usual; settings = false ∷ false ∷ false ∷ false ∷ []; threads = []; commands = 0 }
+nothing_said = record { config = usual; settings = false ∷ false ∷ false ∷ false ∷ false ∷ []; threads = []; commands = 0 }
 
 -- the setting's place among those that a script may set
 abbrev pub place_of : Setting → ℕ
@@ -44,6 +44,7 @@ place_of Page = 0
 place_of Frames = 1
 place_of Size = 2
 place_of Max = 3
+place_of Lsn = 4
 
 abbrev pub was_set : SoFar → Setting → Bool
 was_set s name = slice_index_or s.settings (place_of name) false
@@ -57,6 +58,7 @@ is_settable Page n = is_page_size n
 is_settable Frames n = is_within 1 8192 n
 is_settable Size n = is_within 1 (2 ^ 31) n
 is_settable Max n = is_within 1 16 n
+is_settable Lsn n = is_within 1 (2 ^ 63 - 1) n
 
 -- the size of so many bytes
 abbrev pub size_of : ℕ → PageSize
@@ -67,11 +69,17 @@ with_setting c Page n = record c { page = size_of n }
 with_setting c Frames n = record c { frames = n }
 with_setting c Size n = record c { size = n }
 with_setting c Max n = record c { max = n }
+with_setting c Lsn n = record c { lsn = n }
+
+-- so many bytes from there on are few, and lie between the header and the trailer of a page of this size
+abbrev pub is_in_body : PageSize → ℕ → ℕ → Bool
+is_in_body size at len = is_within 1 256 len && nat_le 38 at && nat_le (at + len) (page_bytes size - 8)
 
 -- the ranges of a command's numbers, for pages of this size
 abbrev pub is_in_range : PageSize → Command → Bool
 is_in_range size (Fix p now) = true
-is_in_range size (Read p at len) = is_within 1 256 len && nat_le 38 at && nat_le (at + len) (page_bytes size - 8)
+is_in_range size (Read p at len) = is_in_body size at len
+is_in_range size (Put p at bytes) = is_in_body size at (length bytes)
 is_in_range size (Unfix p) = true
 
 -- the command stands at the end of the last thread

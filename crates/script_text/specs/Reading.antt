@@ -5,9 +5,9 @@ use Rattle.std.specs.List.{slice_split, position_or_len, before_first, after_fir
 use Rattle.std.specs.Option.{option_and_then}
 use Rattle.page_ids.specs.declared.ids.PageId.{PageId}
 use Rattle.script_text.specs.Text.{is_nothing, setting_name}
-use Rattle.script_text.specs.declared.script.Command.TheVariants.{Fix, Read, Unfix}
+use Rattle.script_text.specs.declared.script.Command.TheVariants.{Fix, Read, Put, Unfix}
 use Rattle.script_text.specs.declared.lines.Setting.{Setting}
-use Rattle.script_text.specs.declared.lines.Setting.TheVariants.{Page, Frames, Size, Max}
+use Rattle.script_text.specs.declared.lines.Setting.TheVariants.{Page, Frames, Size, Max, Lsn}
 use Rattle.script_text.specs.declared.lines.Item.{Item}
 use Rattle.script_text.specs.declared.lines.Item.TheVariants.{Nothing, Set, Thread, Does}
 use Rattle.script_text.specs.declared.lines.Keyword.{Keyword}
@@ -35,11 +35,26 @@ cut_at c bs = if nat_lt (position_or_len (λ b. b == c) bs) (length bs) then Som
 abbrev pub page_of : List ℕ → Option PageId
 page_of word = cut_at 58 word >>= λ r. number_of (2 ^ 32) r.0 >>= λ space. number_of (2 ^ 32) r.1 >>= λ page. Some (record { space = space; page = page })
 
+-- what a lower-case hexadecimal digit stands for
+abbrev pub hex_digit : ℕ → Option ℕ
+hex_digit c = if nat_le 48 c && nat_le c 57 then Some (c - 48) else if nat_le 97 c && nat_le c 102 then Some (c - 97 + 10) else None
+
+-- the byte that two digits write
+abbrev pub byte_of : ℕ → ℕ → Option ℕ
+byte_of a b = hex_digit a >>= λ high. hex_digit b >>= λ low. Some (high * 16 + low)
+
+-- the bytes that a word writes
+abbrev pub hex_of : List ℕ → Option (List ℕ)
+hex_of [] = Some []
+hex_of (a ∷ []) = None
+hex_of (a ∷ b ∷ cs) = byte_of a b >>= λ byte. hex_of cs >>= λ (bytes : List ℕ). Some (byte ∷ bytes)
+
 abbrev pub keyword_text : Keyword → List ℕ
 keyword_text (keyword.Set name) = setting_name name
 keyword_text keyword.Thread = codes "thread"
 keyword_text keyword.Fix = codes "fix"
 keyword_text keyword.Read = codes "read"
+keyword_text keyword.Put = codes "put"
 keyword_text keyword.Unfix = codes "unfix"
 
 abbrev pub found : List ℕ → List Keyword → Option Keyword
@@ -48,8 +63,8 @@ found w (k ∷ ks) = if bytes_eq w (keyword_text k) then Some k else found w ks
 
 abbrev pub keywords : List Keyword
 keywords =
-    keyword.Set Page ∷ keyword.Set Frames ∷ keyword.Set Size ∷ keyword.Set Max
-    ∷ keyword.Thread ∷ keyword.Fix ∷ keyword.Read ∷ keyword.Unfix ∷ []
+    keyword.Set Page ∷ keyword.Set Frames ∷ keyword.Set Size ∷ keyword.Set Max ∷ keyword.Set Lsn
+    ∷ keyword.Thread ∷ keyword.Fix ∷ keyword.Read ∷ keyword.Put ∷ keyword.Unfix ∷ []
 
 abbrev pub keyword_of : List ℕ → Option Keyword
 keyword_of w = found w keywords
@@ -80,6 +95,9 @@ fix_of = two (λ p t. page_of p >>= λ page. number_of (2 ^ 64) t >>= λ now. So
 abbrev pub read_of : List (List ℕ) → Option Item
 read_of = three (λ p a l. page_of p >>= λ page. number_of (2 ^ 32) a >>= λ at. number_of (2 ^ 32) l >>= λ len. Some (Does (Read page at len)))
 
+abbrev pub put_of : List (List ℕ) → Option Item
+put_of = three (λ p a h. page_of p >>= λ page. number_of (2 ^ 32) a >>= λ at. hex_of h >>= λ bytes. Some (Does (Put page at bytes)))
+
 abbrev pub unfix_of : List (List ℕ) → Option Item
 unfix_of = one (λ p. page_of p >>= λ page. Some (Does (Unfix page)))
 
@@ -88,6 +106,7 @@ said_by (keyword.Set name) args = set_of name args
 said_by keyword.Thread args = thread_of args
 said_by keyword.Fix args = fix_of args
 said_by keyword.Read args = read_of args
+said_by keyword.Put args = put_of args
 said_by keyword.Unfix args = unfix_of args
 
 abbrev pub words_say : List (List ℕ) → Option Item

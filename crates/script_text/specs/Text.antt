@@ -1,13 +1,13 @@
 -- How the lines of a script are spelled: words with single spaces between them.
 use Rattle.std.specs.Prelude.{ℕ, Bool, true, List, [], ◌∷◌, ◌≡◌, ◌<◌, ◌^◌, ◌==◌, IsTrue, codes, ⊤}
 use Rattle.std.specs.Fmt.{decimal}
-use Rattle.std.specs.List.{join_with_byte}
-use Rattle.page_ids.specs.Spelling.{page_text}
+use Rattle.std.specs.List.{AllByRecursion, join_with_byte}
+use Rattle.page_ids.specs.Spelling.{page_text, hex}
 use Rattle.page_ids.specs.declared.ids.PageId.{PageId}
 use Rattle.script_text.specs.declared.script.Command.{Command}
-use Rattle.script_text.specs.declared.script.Command.TheVariants.{Fix, Read, Unfix}
+use Rattle.script_text.specs.declared.script.Command.TheVariants.{Fix, Read, Put, Unfix}
 use Rattle.script_text.specs.declared.lines.Setting.{Setting}
-use Rattle.script_text.specs.declared.lines.Setting.TheVariants.{Page, Frames, Size, Max}
+use Rattle.script_text.specs.declared.lines.Setting.TheVariants.{Page, Frames, Size, Max, Lsn}
 use Rattle.script_text.specs.declared.lines.Item.{Item}
 use Rattle.script_text.specs.declared.lines.Item.TheVariants.{Nothing, Set, Thread, Does}
 
@@ -16,10 +16,12 @@ setting_name Page = codes "page"
 setting_name Frames = codes "frames"
 setting_name Size = codes "size"
 setting_name Max = codes "max"
+setting_name Lsn = codes "lsn"
 
 abbrev pub command_words : Command → List (List ℕ)
 command_words (Fix p now) = codes "fix" ∷ page_text p ∷ decimal now ∷ []
 command_words (Read p at len) = codes "read" ∷ page_text p ∷ decimal at ∷ decimal len ∷ []
+command_words (Put p at bytes) = codes "put" ∷ page_text p ∷ decimal at ∷ hex bytes ∷ []
 command_words (Unfix p) = codes "unfix" ∷ page_text p ∷ []
 
 abbrev pub item_words : Item → List (List ℕ)
@@ -28,13 +30,19 @@ item_words (Set name n) = setting_name name ∷ decimal n ∷ []
 item_words (Thread k) = codes "thread" ∷ decimal k ∷ []
 item_words (Does c) = command_words c
 
--- each number fits its type
+-- both numbers fit their type
 abbrev pub IsPageId : PageId → Type 0
 IsPageId p = (p.space < 2 ^ 32) × (p.page < 2 ^ 32)
 
+-- each fits a byte
+abbrev pub AreBytes : List ℕ → Type 0
+AreBytes bytes = AllByRecursion (λ b. b < 256) bytes
+
+-- a command's numbers and bytes fit their types
 abbrev pub IsTyped : Command → Type 0
 IsTyped (Fix p now) = IsPageId p × (now < 2 ^ 64)
 IsTyped (Read p at len) = IsPageId p × (at < 2 ^ 32) × (len < 2 ^ 32)
+IsTyped (Put p at bytes) = IsPageId p × (at < 2 ^ 32) × AreBytes bytes
 IsTyped (Unfix p) = IsPageId p
 
 abbrev pub IsTypedItem : Item → Type 0

@@ -6,10 +6,10 @@ use Rattle.page_ids.specs.Size.{page_bytes}
 use Rattle.page_ids.specs.declared.config.Config.{Config}
 use Rattle.page_ids.specs.declared.ids.PageSize.{PageSize}
 use Rattle.script_text.specs.Plan.{Plan, commands_of}
-use Rattle.script_text.specs.Text.{IsPageId}
+use Rattle.script_text.specs.Text.{IsPageId, AreBytes}
 use Rattle.script_text.specs.Faults.{pages_named}
 use Rattle.script_text.specs.declared.script.Command.{Command}
-use Rattle.script_text.specs.declared.script.Command.TheVariants.{Fix, Read, Unfix}
+use Rattle.script_text.specs.declared.script.Command.TheVariants.{Fix, Read, Put, Unfix}
 
 -- the pool's numbers, each in its range
 pub record IsSettled (c : Config) : Type 0 where
@@ -17,12 +17,16 @@ pub record IsSettled (c : Config) : Type 0 where
   pub frames : (1 ≤ c.frames) × (c.frames ≤ 8192)
   pub size : (1 ≤ c.size) × (c.size ≤ 2 ^ 31)
   pub max : (1 ≤ c.max) × (c.max ≤ 16)
+  pub lsn : (1 ≤ c.lsn) × (c.lsn < 2 ^ 63)
   pub first : c.first ≡ 0
 
 -- a command's numbers, each in its range for pages of this size
 abbrev pub IsInRange : PageSize → Command → Type 0
 IsInRange size (Fix p now) = IsPageId p × (now < 2 ^ 64)
 IsInRange size (Read p at len) = IsPageId p × (1 ≤ len) × (len ≤ 256) × (38 ≤ at) × (at + len ≤ page_bytes size - 8)
+IsInRange size (Put p at bytes) =
+    IsPageId p × (1 ≤ length bytes) × (length bytes ≤ 256) × (38 ≤ at) × (at + length bytes ≤ page_bytes size - 8)
+    × AreBytes bytes
 IsInRange size (Unfix p) = IsPageId p
 
 pub record IsWithin (plan : Plan) : Type 0 where

@@ -1,7 +1,7 @@
 //! What the lines of a script said so far.
 ghost use Rattle.std.specs.Prelude.{◌≡◌, ◌<◌, map, vec_len, IfOk, OnOk, Some, None, true, if◌then◌else◌};
 ghost use Rattle.page_ids.specs.Size.{is_page_size};
-ghost use Rattle.script_text.specs.Grammar.{place_of, is_settable, size_of, with_setting, is_in_range, with_command, step, usual, nothing_said};
+ghost use Rattle.script_text.specs.Grammar.{place_of, is_settable, size_of, with_setting, is_in_body, is_in_range, with_command, step, usual, nothing_said};
 ghost use Rattle.script_text.specs.Verdict.{plan_of};
 
 use crate::lines::{Item, Setting};
@@ -14,7 +14,7 @@ use std::marker::Model;
 #[derive(Debug, Drop)]
 pub struct Draft {
     config: Config,
-    settings: [bool; 4],
+    settings: [bool; 5],
     threads: Vec<Vec<Command>>,
     commands: u32,
 }
@@ -48,13 +48,14 @@ fn usual() -> Config
 
 fn place(setting: Setting) -> usize
     ensures place { result ≡ place_of setting }
-    ensures few { result < 4 }
+    ensures few { result < 5 }
 {
     match setting {
         Setting::Page => 0,
         Setting::Frames => 1,
         Setting::Size => 2,
         Setting::Max => 3,
+        Setting::Lsn => 4,
     }
 }
 
@@ -66,6 +67,7 @@ fn is_settable(setting: Setting, n: u64) -> bool
         Setting::Frames => 1 <= n && n <= 8192,
         Setting::Size => 1 <= n && n <= 2147483648,
         Setting::Max => 1 <= n && n <= 16,
+        Setting::Lsn => 1 <= n && n <= 0x7fff_ffff_ffff_ffff,
     }
 }
 
@@ -97,7 +99,16 @@ fn with_setting(config: Config, setting: Setting, n: u64) -> Config
             max: n as u32,
             ..config
         },
+        Setting::Lsn => Config { lsn: n, ..config },
     }
+}
+
+/// Whether `len` bytes from `at` on are 1 to 256 and lie in the body of a page of this size.
+fn is_in_body(size: PageSize, at: u32, len: u64) -> bool
+    ensures { result ≡ is_in_body size at len }
+{
+    let end = u64::from(size.bytes()) - 8;
+    1 <= len && len <= 256 && 38 <= at && u64::from(at) + len <= end
 }
 
 fn is_in_range(size: PageSize, command: &Command) -> bool
@@ -105,9 +116,10 @@ fn is_in_range(size: PageSize, command: &Command) -> bool
 {
     match command {
         Command::Fix { .. } => true,
-        Command::Read { at, len, .. } => {
-            let end = u64::from(*at) + u64::from(*len);
-            1 <= *len && *len <= 256 && 38 <= *at && end <= u64::from(size.bytes()) - 8
+        Command::Read { at, len, .. } => is_in_body(size, *at, u64::from(*len)),
+        Command::Put { at, bytes, .. } => {
+            let len = bytes.as_slice().len() as u64;
+            is_in_body(size, *at, len)
         }
         Command::Unfix { .. } => true,
     }
@@ -132,7 +144,7 @@ impl Draft {
     {
         Draft {
             config: usual(),
-            settings: [false, false, false, false],
+            settings: [false, false, false, false, false],
             threads: Vec::new(alloc),
             commands: 0,
         }

@@ -2,10 +2,10 @@
 ghost use Rattle.std.specs.Prelude.{◌≡◌, ◌==◌, map, IfOk};
 ghost use Rattle.std.specs.List.{slice_split};
 ghost use Rattle.script_text.specs.Text.{is_nothing};
-ghost use Rattle.script_text.specs.Reading.{keyword_of, set_of, thread_of, fix_of, read_of, unfix_of, words_say, line_says};
+ghost use Rattle.script_text.specs.Reading.{keyword_of, set_of, thread_of, fix_of, read_of, put_of, unfix_of, words_say, line_says};
 
 use crate::script::Command;
-use crate::words::{number, number_u32, page};
+use crate::words::{bytes, number, number_u32, page};
 use std::alloc::{AllocError, Global};
 
 /// A number of the pool that a script may set.
@@ -15,10 +15,11 @@ pub enum Setting {
     Frames,
     Size,
     Max,
+    Lsn,
 }
 
 /// What a line says.
-#[derive(Clone, Copy, Debug)]
+#[derive(Debug, Drop)]
 pub enum Item {
     /// An empty line or a comment says nothing.
     Nothing,
@@ -34,6 +35,7 @@ pub enum Keyword {
     Thread,
     Fix,
     Read,
+    Put,
     Unfix,
 }
 
@@ -49,12 +51,16 @@ fn keyword_of(word: &[u8]) -> Option<Keyword>
         Some(Keyword::Set(Setting::Size))
     } else if word == b"max".as_slice() {
         Some(Keyword::Set(Setting::Max))
+    } else if word == b"lsn".as_slice() {
+        Some(Keyword::Set(Setting::Lsn))
     } else if word == b"thread".as_slice() {
         Some(Keyword::Thread)
     } else if word == b"fix".as_slice() {
         Some(Keyword::Fix)
     } else if word == b"read".as_slice() {
         Some(Keyword::Read)
+    } else if word == b"put".as_slice() {
+        Some(Keyword::Put)
     } else if word == b"unfix".as_slice() {
         Some(Keyword::Unfix)
     } else {
@@ -110,6 +116,25 @@ fn read(args: &[&[u8]]) -> Option<Item>
     Some(Item::Does { command })
 }
 
+fn put(alloc: Global, args: &[&[u8]]) -> Result<Option<Item>, AllocError>
+    ensures { IfOk result (λ found. found ≡ put_of (map (λ w. w.now) args.now)) }
+{
+    let [p, at, digits] = args else {
+        return Ok(None);
+    };
+    let Some(page) = page(p) else {
+        return Ok(None);
+    };
+    let Some(at) = number_u32(at) else {
+        return Ok(None);
+    };
+    let Some(bytes) = bytes(alloc, digits)? else {
+        return Ok(None);
+    };
+    let command = Command::Put { page, at, bytes };
+    Ok(Some(Item::Does { command }))
+}
+
 fn unfix(args: &[&[u8]]) -> Option<Item>
     ensures { result ≡ unfix_of (map (λ w. w.now) args.now) }
 {
@@ -122,19 +147,23 @@ fn unfix(args: &[&[u8]]) -> Option<Item>
 }
 
 /// What words say.
-fn said(words: &[&[u8]]) -> Option<Item>
-    ensures { result ≡ words_say (map (λ w. w.now) words.now) }
+fn said(alloc: Global, words: &[&[u8]]) -> Result<Option<Item>, AllocError>
+    ensures { IfOk result (λ found. found ≡ words_say (map (λ w. w.now) words.now)) }
 {
     let [first, args @ ..] = words else {
-        return None;
+        return Ok(None);
     };
-    match keyword_of(first)? {
+    let Some(keyword) = keyword_of(first) else {
+        return Ok(None);
+    };
+    Ok(match keyword {
         Keyword::Set(setting) => set(setting, args),
         Keyword::Thread => thread(args),
         Keyword::Fix => fix(args),
         Keyword::Read => read(args),
+        Keyword::Put => put(alloc, args)?,
         Keyword::Unfix => unfix(args),
-    }
+    })
 }
 
 /// Whether a line is empty or a comment.
@@ -162,5 +191,5 @@ pub fn item_of(alloc: Global, line: &[u8]) -> Result<Option<Item>, AllocError>
         return Ok(Some(Item::Nothing));
     }
     let words = words(alloc, line)?;
-    Ok(said(words.as_slice()))
+    said(alloc, words.as_slice())
 }

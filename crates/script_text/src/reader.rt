@@ -88,6 +88,7 @@ fn adds(command: &Command, later: &[Command]) -> usize
     match command {
         Command::Fix { page, .. } => { if is_fixed(*page, later) { 0 } else { 1 } }
         Command::Read { .. } => 0,
+        Command::Put { .. } => 0,
         Command::Unfix { .. } => 0,
     }
 }

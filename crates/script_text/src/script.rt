@@ -2,16 +2,18 @@
 ghost use Rattle.std.specs.Prelude.{◌≡◌, map};
 ghost use Rattle.script_text.specs.Plan.{commands_of};
 
-use page_ids::{Config, PageId};
+use page_ids::{Bytes, Config, PageId};
 use std::marker::Model;
 
 /// What a thread's line asks for.
-#[derive(Clone, Copy, Debug, PartialEq, Eq)]
+#[derive(Debug, PartialEq, Eq, Drop)]
 pub enum Command {
     /// Fixes the page at this moment, in milliseconds.
     Fix { page: PageId, now: u64 },
     /// Reads `len` bytes, 1 to 256, from `at` on, within the page's body.
     Read { page: PageId, at: u32, len: u32 },
+    /// Writes these bytes, 1 to 256, from `at` on, within the page's body.
+    Put { page: PageId, at: u32, bytes: Bytes },
     /// Gives the newest fix of the page back.
     Unfix { page: PageId },
 }

@@ -2,7 +2,7 @@
 use crate::program::{Program, WordsErr, command_of};
 use crate::reader::{ScriptErr, read_script};
 use crate::script::Command;
-use page_ids::{PageId, PageSize};
+use page_ids::{Bytes, PageId, PageSize};
 use std::alloc::{AllocError, Global};
 use std::test::Fail;
 
@@ -35,7 +35,7 @@ fn repeated(alloc: Global, text: &[u8], line: &[u8], times: u32) -> Result<Vec<u
 
 #[test]
 fn lines_that_are_in_the_grammar(rt: HostRuntime) -> Result<(), Fail> {
-    let texts: [&[u8]; 24] = [
+    let texts: [&[u8]; 30] = [
         b"",
         b"\n",
         b"\n\n",
@@ -60,6 +60,12 @@ fn lines_that_are_in_the_grammar(rt: HostRuntime) -> Result<(), Fail> {
         b"page 4096\nsize 1\nthread 1\nread 0:0 4087 1",
         b"frames 2\nsize 1\nthread 1\nfix 0:0 1\nfix 1:0 1\nfix 0:0 2\nunfix 9:9\nread 8:8 38 1",
         b"thread 1\nunfix 4294967295:4294967295",
+        b"thread 1\nput 4294967295:4294967295 38 0123456789abcdef",
+        b"frames 1\nsize 1\nthread 1\nput 0:0 38 ab\nfix 0:2 1\nput 0:1 38 ab",
+        b"lsn 9223372036854775807\nthread 1\nfix 0:0 1\nput 0:0 38 01",
+        b"lsn 1",
+        b"lsn 9223372036854775807",
+        b"max 2\nlsn 8192\npage 16384",
     ];
     for text in texts {
         assert_eq!(rt; bad_line(rt.alloc(), text)?, None, "{text:?}");
@@ -109,7 +115,7 @@ fn blanks_and_unknown_words(rt: HostRuntime) -> Result<(), Fail> {
 
 #[test]
 fn numbers_past_their_limits(rt: HostRuntime) -> Result<(), Fail> {
-    let rows: [(&[u8], u32); 36] = [
+    let rows: [(&[u8], u32); 40] = [
         (b"thread 01", 1),
         (b"thread +1", 1),
         (b"thread -1", 1),
@@ -124,6 +130,10 @@ fn numbers_past_their_limits(rt: HostRuntime) -> Result<(), Fail> {
         (b"size 0", 1),
         (b"size 2147483649", 1),
         (b"size 18446744073709551617", 1),
+        (b"lsn 0", 1),
+        (b"lsn 9223372036854775808", 1),
+        (b"lsn 18446744073709551617", 1),
+        (b"lsn 01", 1),
         (b"max 0", 1),
         (b"max 17", 1),
         (b"max 4294967297", 1),
@@ -153,13 +163,141 @@ fn numbers_past_their_limits(rt: HostRuntime) -> Result<(), Fail> {
     Ok(())
 }
 
+/// A script that puts so many bytes there, as line 4; `size 1` keeps it to one chunk.
+fn put_of(alloc: Global, page: u32, at: u64, count: u32) -> Result<Vec<u8>, AllocError> {
+    let text = format!(in alloc; "page {page}\nsize 1\nthread 1\nput 0:0 {at} ")?;
+    repeated(alloc, text.as_bytes(), b"5a", count)
+}
+
+#[test]
+fn puts_at_the_edges_of_a_page(rt: HostRuntime) -> Result<(), Fail> {
+    let bad = Some(4);
+    let rows: [(u32, u64, u32, Option<u32>); 29] = [
+        (4096, 38, 1, None),
+        (4096, 38, 255, None),
+        (4096, 38, 256, None),
+        (4096, 4086, 2, None),
+        (4096, 4087, 1, None),
+        (4096, 3832, 256, None),
+        (8192, 38, 1, None),
+        (8192, 8183, 1, None),
+        (8192, 7928, 256, None),
+        (16384, 38, 1, None),
+        (16384, 16375, 1, None),
+        (16384, 16120, 256, None),
+        (4096, 37, 1, bad),
+        (4096, 37, 256, bad),
+        (4096, 0, 1, bad),
+        (4096, 4087, 2, bad),
+        (4096, 4088, 1, bad),
+        (4096, 3833, 256, bad),
+        (4096, 38, 0, bad),
+        (4096, 38, 257, bad),
+        (4096, 4294967295, 1, bad),
+        (4096, 4294967334, 1, bad),
+        (8192, 37, 1, bad),
+        (8192, 8184, 1, bad),
+        (8192, 7929, 256, bad),
+        (16384, 37, 1, bad),
+        (16384, 16376, 1, bad),
+        (16384, 16121, 256, bad),
+        (16384, 38, 257, bad),
+    ];
+    for (page, at, count, line) in rows {
+        let text = put_of(rt.alloc(), page, at, count)?;
+        assert_eq!(rt;
+            bad_line(rt.alloc(), text.as_slice())?,
+            line,
+            "{page} {at} {count}"
+        );
+    }
+    Ok(())
+}
+
+#[test]
+fn bytes_that_are_no_bytes(rt: HostRuntime) -> Result<(), Fail> {
+    let rows: [(&[u8], u32); 28] = [
+        (b"thread 1\nput", 2),
+        (b"thread 1\nput 0:0", 2),
+        (b"thread 1\nput 0:0 38", 2),
+        (b"thread 1\nput 0:0 38 ", 2),
+        (b"thread 1\nput 0:0 ab", 2),
+        (b"thread 1\nput 0:0 38 a", 2),
+        (b"thread 1\nput 0:0 38 abc", 2),
+        (b"thread 1\nput 0:0 38 AB", 2),
+        (b"thread 1\nput 0:0 38 aB", 2),
+        (b"thread 1\nput 0:0 38 Ab", 2),
+        (b"thread 1\nput 0:0 38 ag", 2),
+        (b"thread 1\nput 0:0 38 ga", 2),
+        (b"thread 1\nput 0:0 38 0/", 2),
+        (b"thread 1\nput 0:0 38 0:", 2),
+        (b"thread 1\nput 0:0 38 0`", 2),
+        (b"thread 1\nput 0:0 38 0xab", 2),
+        (b"thread 1\nput 0:0 38 +1", 2),
+        (b"thread 1\nput 0:0 38 ab ", 2),
+        (b"thread 1\nput 0:0 38  ab", 2),
+        (b"thread 1\nput 0:0 38 ab cd", 2),
+        (b"thread 1\nput 0:0 38 ab,cd", 2),
+        (b"thread 1\nput 0:0 38 \xab\xcd", 2),
+        (b"thread 1\nput 0:0 38 ab\r\n", 2),
+        (b"thread 1\nput 0:0 038 ab", 2),
+        (b"thread 1\nput 0:0 26h ab", 2),
+        (b"thread 1\nput 0 38 ab", 2),
+        (b"thread 1\nput 00:0 38 ab", 2),
+        (b"thread 1\nputs 0:0 38 ab", 2),
+    ];
+    for (text, line) in rows {
+        assert_eq!(rt; bad_line(rt.alloc(), text)?, Some(line), "{text:?}");
+    }
+    Ok(())
+}
+
+#[test]
+fn a_put_in_its_script(rt: HostRuntime) -> Result<(), Fail> {
+    let alloc = rt.alloc();
+    let rows: [(&[u8], Option<u32>); 2] = [(b"4087 ab", None), (b"4088 ab", Some(7))];
+    for (range, line) in rows {
+        let head = b"page 4096\nframes 4\nsize 16384\nmax 2\nthread 1\nfix 0:0 1\nput 0:0 ";
+        let mut text = repeated(alloc, head, range, 1)?;
+        text.extend_from_slice(b"\nread 0:0 4087 1\nunfix 0:0")?;
+        assert_eq!(rt; bad_line(alloc, text.as_slice())?, line, "{range:?}");
+    }
+    Ok(())
+}
+
+#[test]
+fn what_a_put_asks_for(rt: HostRuntime) -> Result<(), Fail> {
+    let alloc = rt.alloc();
+    let text =
+        b"lsn 9223372036854775807\nthread 1\nput 7:9 38 0123456789abcdef00ff5a\nput 0:0 40 0a";
+    let script = read_script(alloc, text)?;
+    assert_eq!(rt; script.config().lsn, 9223372036854775807);
+    let bytes = Vec::from_slice(alloc, b"\x01\x23\x45\x67\x89\xab\xcd\xef\x00\xff\x5a")?;
+    let first = Command::Put {
+        page: PageId { space: 7, page: 9 },
+        at: 38,
+        bytes: Bytes::of(bytes),
+    };
+    let second = Command::Put {
+        page: PageId { space: 0, page: 0 },
+        at: 40,
+        bytes: Bytes::of(Vec::from_slice(alloc, b"\n")?),
+    };
+    assert_eq!(rt; script.commands(), [first, second].as_slice());
+    Ok(())
+}
+
 #[test]
 fn order_and_the_whole(rt: HostRuntime) -> Result<(), Fail> {
-    let rows: [(&[u8], u32); 26] = [
+    let rows: [(&[u8], u32); 28] = [
         (b"max 2\nmax 2", 2),
+        (b"lsn 8192\nmax 2\nlsn 8193", 3),
+        (b"lsn 8192\nlsn 8192", 2),
         (b"page 4096\nframes 4\npage 4096", 3),
         (b"thread 1\nmax 2", 2),
+        (b"thread 1\nlsn 8192", 2),
         (b"fix 0:0 1", 1),
+        (b"put 0:0 38 ab", 1),
         (b"max 2\nunfix 0:0\nthread 1", 2),
         (b"thread 2", 1),
         (b"thread 1\nthread 1", 2),
@@ -169,10 +307,8 @@ fn order_and_the_whole(rt: HostRuntime) -> Result<(), Fail> {
         (b"old_pct 37", 1),
         (b"old_time 1000", 1),
         (b"old_min 512", 1),
-        (b"lsn 8192", 1),
         (b"first 0", 1),
         (b"thread 1\ncreate 0:0 1", 2),
-        (b"thread 1\nput 0:0 38 ab", 2),
         (b"thread 1\nguess 0:0", 2),
         (b"thread 1\ncheckpoint", 2),
         (b"max 16", 0),
@@ -202,6 +338,10 @@ fn long_scripts(rt: HostRuntime) -> Result<(), Fail> {
     assert_eq!(rt; bad_line(alloc, full.as_slice())?, None);
     let more = repeated(alloc, full.as_slice(), b"#\n\nunfix 0:0\n", 1)?;
     assert_eq!(rt; bad_line(alloc, more.as_slice())?, Some(68));
+    let puts = repeated(alloc, full.as_slice(), b"put 0:0 38 ab\n", 1)?;
+    assert_eq!(rt; bad_line(alloc, puts.as_slice())?, Some(66));
+    let long_put = repeated(alloc, b"thread 1\nput 0:0 38 ", b"ab", 524000)?;
+    assert_eq!(rt; bad_line(alloc, long_put.as_slice())?, Some(2));
     let longest = repeated(alloc, b"", b"# fifteen bytes\n", 65536)?;
     assert_eq!(rt; longest.len(), 1048576);
     assert_eq!(rt; bad_line(alloc, longest.as_slice())?, None);

@@ -1,9 +1,10 @@
-//! The words of a line: numbers and page ids, each in its one spelling.
-ghost use Rattle.std.specs.Prelude.{◌≡◌, ◌+◌, ◌^◌, ◌≤◌, ◌==◌, Some, None, IfSome, MatchOption};
+//! The words of a line: numbers, page ids and bytes, each in its one spelling.
+ghost use Rattle.std.specs.Prelude.{◌≡◌, ◌+◌, ◌^◌, ◌≤◌, ◌==◌, ◌<◌, Some, None, IfOk, IfSome, MatchOption};
 ghost use Rattle.std.specs.List.{position_or_len};
-ghost use Rattle.script_text.specs.Reading.{digits_after, number_of, cut_at, page_of};
+ghost use Rattle.script_text.specs.Reading.{digits_after, number_of, cut_at, page_of, hex_digit, byte_of, hex_of};
 
-use page_ids::PageId;
+use page_ids::{Bytes, PageId};
+use std::alloc::{AllocError, Global};
 
 /// The number that digits write, where it is at most `max`.
 fn digits(max: u64, text: &[u8]) -> Option<u64>
@@ -77,4 +78,45 @@ pub fn page(word: &[u8]) -> Option<PageId>
     let space = number_u32(space)?;
     let page = number_u32(page)?;
     Some(PageId { space, page })
+}
+
+/// What a lower-case hexadecimal digit stands for.
+fn hex_digit(digit: u8) -> Option<u8>
+    ensures reads { result ≡ hex_digit digit }
+    ensures small { IfSome result (λ n. n < 16) }
+{
+    match digit {
+        b'0'..=b'9' => Some(digit - b'0'),
+        b'a'..=b'f' => Some(digit - b'a' + 10),
+        _ => None,
+    }
+}
+
+/// The byte that two digits write, the high one first.
+fn byte(first: u8, second: u8) -> Option<u8>
+    ensures { result ≡ byte_of first second }
+{
+    let high = hex_digit(first)?;
+    let low = hex_digit(second)?;
+    Some(high * 16 + low)
+}
+
+/// The bytes that a word writes, two lower-case hexadecimal digits for each.
+pub fn bytes(alloc: Global, word: &[u8]) -> Result<Option<Bytes>, AllocError>
+    ensures { IfOk result (λ bytes. bytes ≡ hex_of word.now) }
+{
+    let mut bytes = Vec::new(alloc);
+    let mut rest = word;
+    while let [first, second, others @ ..] = rest {
+        let Some(byte) = byte(*first, *second) else {
+            return Ok(None);
+        };
+        bytes.push(byte)?;
+        rest = others;
+    }
+    if rest.is_empty() {
+        Ok(Some(Bytes::of(bytes)))
+    } else {
+        Ok(None)
+    }
 }

@@ -12,4 +12,7 @@ pub mod CauseWords
 pub mod KindWords
 pub mod NoteWords
 pub mod TrailWords
+pub mod DirtyPages
+pub mod Durable
+pub mod RisingPages
 pub mod rows

@@ -1,5 +1,11 @@
 pub mod Shared
 pub mod Lawful
+pub mod Puts
+pub mod Writes
+pub mod Dirty
+pub mod BadPuts
+pub mod BadWrites
+pub mod BadRefusals
 pub mod Refusals
 pub mod Order
 pub mod Fixes
@@ -11,3 +17,6 @@ pub mod Shrunk
 pub mod Books
 pub mod Moved
 pub mod Callers
+pub mod Kinds
+pub mod Cases
+pub mod Midpoints

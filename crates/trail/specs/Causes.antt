@@ -1,5 +1,5 @@
 -- Why calls are refused. The state is that before the event.
-use Rattle.std.specs.Prelude.{ℕ, Bool, true, false, List, ◌≡◌, ◌≢◌, ◌≤◌, Option, None, Some, IfSome, IsSomeAnd, is_none, nat_le, if◌then◌else◌}
+use Rattle.std.specs.Prelude.{ℕ, Bool, true, false, List, ◌≡◌, ◌≢◌, ◌≤◌, ◌<◌, ◌+◌, ◌^◌, length, Option, None, Some, IfSome, IsSomeAnd, is_none, nat_le, if◌then◌else◌}
 use Rattle.page_ids.specs.Faults.{Rose}
 use Rattle.page_ids.specs.declared.ids.PageId.{PageId}
 use Rattle.page_ids.specs.declared.layout.BadPage.{BadPage}
@@ -15,7 +15,8 @@ use Rattle.trail.specs.declared.event.Note.TheVariants as note
 use Rattle.trail.specs.declared.event.Event.{Event}
 use Rattle.trail.specs.declared.event.Event.TheVariants as event
 use Rattle.trail.specs.Places.{entries}
-use Rattle.trail.specs.History.{disk_faults}
+use Rattle.trail.specs.History.{disk_faults, log_faults}
+use Rattle.trail.specs.Dirt.{log_end}
 use Rattle.trail.specs.Calls.{held_by, newest_of, granted_call, noted_call}
 use Rattle.trail.specs.Opening.{Opening}
 
@@ -78,6 +79,27 @@ abbrev pub fixed_page : Call → Option PageId
 fixed_page (call.Fix p now) = Some p
 fixed_page _ = None
 
+-- the bytes of the record that the call would log
+abbrev pub record_bytes : Call → Option ℕ
+record_bytes (call.Fix p now) = None
+record_bytes (call.Create p now) = Some 21
+record_bytes (call.Put p at bytes) = Some (21 + length bytes)
+record_bytes (call.Read p at len) = None
+record_bytes (call.Unfix p) = None
+record_bytes (call.Guess p f clock) = None
+record_bytes (call.Watch p) = None
+record_bytes (call.Occurred p) = None
+record_bytes (call.Unwatch p) = None
+record_bytes (call.Clean bound) = None
+record_bytes call.Check = None
+record_bytes (call.Dump pct) = None
+record_bytes (call.Resize bytes rounds) = None
+
+-- a log that ends here, behind every earlier change, has no LSN left for the call's record
+pub record IsLogSpent (past : List Event) (asked : Call) (end : ℕ) : Type 0 where
+  pub behind : log_end (entries past) ≤ end
+  pub beyond : IsSomeAnd (record_bytes asked) (λ n. 2 ^ 63 < end + n)
+
 -- what is so where a cause that is not exact comes; a cause that no call has so far does not come
 abbrev pub Comes : List Event → Call → Cause → Type 0
 Comes past asked (cause.PlacesSpent mark need) = ⊥
@@ -85,10 +107,10 @@ Comes past asked (cause.NoSuchPage pages) = ⊥
 Comes past asked (cause.HoldFull held) = ⊥
 Comes past asked (cause.Resident f) = ⊥
 Comes past asked (cause.AllFixed seen) = ⊥
-Comes past asked (cause.RedoFault before after) = ⊥
+Comes past asked (cause.RedoFault before after) = Rose before after × (log_faults (entries past) ≤ before)
 Comes past asked (cause.DiskFault before after) = Rose before after × (disk_faults (entries past) ≤ before)
 Comes past asked (cause.BadPage bad) = IsSomeAnd (fixed_page asked) (λ p. IsOther p bad)
-Comes past asked (cause.LogSpent end) = ⊥
+Comes past asked (cause.LogSpent end) = IsLogSpent past asked end
 Comes past asked (cause.WatchFull watches) = ⊥
 Comes past asked cause.NoWatch = ⊥
 Comes past asked cause.TooSmall = ⊥

@@ -95,14 +95,81 @@ change (e ∷ h) f = if changes h e.kind f then e.place else change h f
 
 -- the disk's count of faults after a refusal that tells it
 abbrev pub disk_faults_after : Cause → ℕ → ℕ
+disk_faults_after (cause.PlacesSpent mark need) last = last
+disk_faults_after (cause.NoSuchPage pages) last = last
+disk_faults_after (cause.HoldFull held) last = last
+disk_faults_after (cause.Resident f) last = last
+disk_faults_after (cause.AllFixed seen) last = last
+disk_faults_after (cause.RedoFault before after) last = last
 disk_faults_after (cause.DiskFault before after) last = after
-disk_faults_after _ last = last
+disk_faults_after (cause.BadPage bad) last = last
+disk_faults_after (cause.LogSpent end) last = last
+disk_faults_after (cause.WatchFull watches) last = last
+disk_faults_after cause.NoWatch last = last
+disk_faults_after cause.TooSmall last = last
+disk_faults_after (cause.TooLarge chunks max) last = last
+disk_faults_after (cause.Withdrawing from) last = last
+disk_faults_after (cause.Undone seen) last = last
+disk_faults_after (cause.NoFrame frames) last = last
+disk_faults_after (cause.Stale found) last = last
+disk_faults_after (cause.OtherPage found) last = last
+disk_faults_after (cause.Latched found) last = last
+disk_faults_after (cause.Busy found) last = last
+disk_faults_after cause.Unheld last = last
 
-abbrev pub disk_faults_after_kind : Kind → ℕ → ℕ
-disk_faults_after_kind (kind.Refused asked why) last = disk_faults_after why last
-disk_faults_after_kind _ last = last
+-- and the log's
+abbrev pub log_faults_after : Cause → ℕ → ℕ
+log_faults_after (cause.PlacesSpent mark need) last = last
+log_faults_after (cause.NoSuchPage pages) last = last
+log_faults_after (cause.HoldFull held) last = last
+log_faults_after (cause.Resident f) last = last
+log_faults_after (cause.AllFixed seen) last = last
+log_faults_after (cause.RedoFault before after) last = after
+log_faults_after (cause.DiskFault before after) last = last
+log_faults_after (cause.BadPage bad) last = last
+log_faults_after (cause.LogSpent end) last = last
+log_faults_after (cause.WatchFull watches) last = last
+log_faults_after cause.NoWatch last = last
+log_faults_after cause.TooSmall last = last
+log_faults_after (cause.TooLarge chunks max) last = last
+log_faults_after (cause.Withdrawing from) last = last
+log_faults_after (cause.Undone seen) last = last
+log_faults_after (cause.NoFrame frames) last = last
+log_faults_after (cause.Stale found) last = last
+log_faults_after (cause.OtherPage found) last = last
+log_faults_after (cause.Latched found) last = last
+log_faults_after (cause.Busy found) last = last
+log_faults_after cause.Unheld last = last
+
+-- what the cause of a refused call makes of a count; every other entry leaves it
+abbrev pub after_cause : (Cause → ℕ → ℕ) → Kind → ℕ → ℕ
+after_cause step (kind.Load q f) last = last
+after_cause step (kind.Fix q f clock now) last = last
+after_cause step (kind.Create q f start end now) last = last
+after_cause step (kind.Put q at bytes start end) last = last
+after_cause step (kind.Evict q f passed) last = last
+after_cause step (kind.Write q lsn upto) last = last
+after_cause step (kind.Move q from to) last = last
+after_cause step (kind.Withdraw from) last = last
+after_cause step (kind.Undo from) last = last
+after_cause step (kind.Shrink chunks) last = last
+after_cause step (kind.Grow chunks) last = last
+after_cause step (kind.Resize bytes chunks) last = last
+after_cause step (kind.Clean written skipped) last = last
+after_cause step (kind.Check lsn) last = last
+after_cause step (kind.WatchSet q) last = last
+after_cause step (kind.WatchAt q f) last = last
+after_cause step (kind.Occurred q arrived) last = last
+after_cause step (kind.Unwatch q) last = last
+after_cause step (kind.Dump pct ids) last = last
+after_cause step (kind.Refused asked why) last = step why last
 
 -- the disk's count of faults as the last of its faults told it, 0 before the first
 abbrev pub disk_faults : List Entry → ℕ
 disk_faults [] = 0
-disk_faults (e ∷ h) = disk_faults_after_kind e.kind (disk_faults h)
+disk_faults (e ∷ h) = after_cause disk_faults_after e.kind (disk_faults h)
+
+-- and the log's
+abbrev pub log_faults : List Entry → ℕ
+log_faults [] = 0
+log_faults (e ∷ h) = after_cause log_faults_after e.kind (log_faults h)

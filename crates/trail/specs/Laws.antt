@@ -9,6 +9,7 @@ use Rattle.trail.specs.Calls.{under_way, held_by, newest_of}
 use Rattle.trail.specs.Events.{Events}
 use Rattle.trail.specs.Opening.{Opening}
 use Rattle.trail.specs.Legal.{IsLegal}
+use Rattle.trail.specs.Covered.{IsCovered}
 use Rattle.trail.specs.Causes.{IsCaused}
 
 -- no caller has an open fix of the page
@@ -17,9 +18,26 @@ IsUnfixed past p = (c : ℕ) → newest_of (held_by past c) p ≡ None
 
 -- a page that any caller has fixed neither leaves nor moves
 abbrev pub IsStillKind : List Event → Kind → Type 0
+IsStillKind past (kind.Load p f) = ⊤
+IsStillKind past (kind.Fix p f clock now) = ⊤
+IsStillKind past (kind.Create p f start end now) = ⊤
+IsStillKind past (kind.Put p at bytes start end) = ⊤
 IsStillKind past (kind.Evict p f passed) = IsUnfixed past p
+IsStillKind past (kind.Write p lsn upto) = ⊤
 IsStillKind past (kind.Move p from to) = IsUnfixed past p
-IsStillKind past _ = ⊤
+IsStillKind past (kind.Withdraw from) = ⊤
+IsStillKind past (kind.Undo from) = ⊤
+IsStillKind past (kind.Shrink chunks) = ⊤
+IsStillKind past (kind.Grow chunks) = ⊤
+IsStillKind past (kind.Resize bytes chunks) = ⊤
+IsStillKind past (kind.Clean written skipped) = ⊤
+IsStillKind past (kind.Check lsn) = ⊤
+IsStillKind past (kind.WatchSet p) = ⊤
+IsStillKind past (kind.WatchAt p f) = ⊤
+IsStillKind past (kind.Occurred p arrived) = ⊤
+IsStillKind past (kind.Unwatch p) = ⊤
+IsStillKind past (kind.Dump pct ids) = ⊤
+IsStillKind past (kind.Refused asked why) = ⊤
 
 abbrev pub IsStill : List Event → Event → Type 0
 IsStill past (event.Entry e) = IsStillKind past e.kind
@@ -29,6 +47,7 @@ IsStill past (event.Receipt r) = ⊤
 pub record IsLawful (o : Opening) (past : List Event) (e : Event) : Type 0 where
   pub legal : IsLegal o past e
   pub still : IsStill past e
+  pub covered : IsCovered past e
   pub causes : IsCaused o past e
 
 -- each event was lawful where it came, the newest first

@@ -1,7 +1,11 @@
 -- Which events are legal. Each is judged by what stands before it; the newest event stands first.
-use Rattle.std.specs.Prelude.{ℕ, List, [], ◌∷◌, ◌≡◌, ◌+◌, ◌<◌, ◌⊎◌, None, Some, IsSome, IsSomeAnd, Contains, slice_range, length, ⊤}
+use Rattle.std.specs.Prelude.{ℕ, List, [], ◌∷◌, ◌++◌, ◌≡◌, ◌+◌, ◌-◌, ◌<◌, ◌≤◌, ◌⊎◌, Option, None, Some, IsSome, IsSomeAnd, Contains, slice_range, length, map, drop, ⊤}
+use Rattle.page_ids.specs.Size.{page_bytes}
 use Rattle.page_ids.specs.declared.ids.PageId.{PageId}
 use Rattle.page_ids.specs.declared.frame_word.Word.{Word}
+use Rattle.trail.specs.declared.event.Call.{Call}
+use Rattle.trail.specs.declared.event.Call.TheVariants as call
+use Rattle.trail.specs.declared.event.Dirty.{Dirty}
 use Rattle.trail.specs.declared.event.Kind.{Kind}
 use Rattle.trail.specs.declared.event.Kind.TheVariants as kind
 use Rattle.trail.specs.declared.event.Note.{Note}
@@ -13,6 +17,7 @@ use Rattle.trail.specs.declared.event.Event.TheVariants as event
 use Rattle.trail.specs.Places.{mark, entries}
 use Rattle.trail.specs.History.{home, change}
 use Rattle.trail.specs.Book.{book, next_frame}
+use Rattle.trail.specs.Dirt.{dirty, log_end}
 use Rattle.trail.specs.Calls.{next_number, under_way, held_by, newest_of}
 use Rattle.trail.specs.Opening.{Opening, OnValue}
 
@@ -25,8 +30,52 @@ IsLast (e ∷ h) c = e.caller ≡ c
 abbrev pub IsTogether : List Event → ℕ → Type 0
 IsTogether past c = (under_way past c ≡ []) ⊎ IsLast (entries past) c
 
+-- the page that an entry says was written
+abbrev pub written_page : Kind → Option PageId
+written_page (kind.Load p f) = None
+written_page (kind.Fix p f clock now) = None
+written_page (kind.Create p f start end now) = None
+written_page (kind.Put p at bytes start end) = None
+written_page (kind.Evict p f passed) = None
+written_page (kind.Write p lsn upto) = Some p
+written_page (kind.Move p from to) = None
+written_page (kind.Withdraw from) = None
+written_page (kind.Undo from) = None
+written_page (kind.Shrink chunks) = None
+written_page (kind.Grow chunks) = None
+written_page (kind.Resize bytes chunks) = None
+written_page (kind.Clean written skipped) = None
+written_page (kind.Check lsn) = None
+written_page (kind.WatchSet p) = None
+written_page (kind.WatchAt p f) = None
+written_page (kind.Occurred p arrived) = None
+written_page (kind.Unwatch p) = None
+written_page (kind.Dump pct ids) = None
+written_page (kind.Refused asked why) = None
+
+-- entries that are writes alone
+abbrev pub AreWrites : List Kind → Type 0
+AreWrites [] = ⊤
+AreWrites (k ∷ made) = IsSome (written_page k) × AreWrites made
+
+-- the entries that a refused call may have: a clean keeps its writes, every other call has none so far
+abbrev pub MayPrecedeRefusal : List Kind → Call → Type 0
+MayPrecedeRefusal made (call.Fix p now) = made ≡ []
+MayPrecedeRefusal made (call.Create p now) = made ≡ []
+MayPrecedeRefusal made (call.Put p at bytes) = made ≡ []
+MayPrecedeRefusal made (call.Read p at len) = made ≡ []
+MayPrecedeRefusal made (call.Unfix p) = made ≡ []
+MayPrecedeRefusal made (call.Guess p f clock) = made ≡ []
+MayPrecedeRefusal made (call.Watch p) = made ≡ []
+MayPrecedeRefusal made (call.Occurred p) = made ≡ []
+MayPrecedeRefusal made (call.Unwatch p) = made ≡ []
+MayPrecedeRefusal made (call.Clean bound) = AreWrites made
+MayPrecedeRefusal made call.Check = made ≡ []
+MayPrecedeRefusal made (call.Dump pct) = made ≡ []
+MayPrecedeRefusal made (call.Resize bytes rounds) = made ≡ []
+
 -- Which entries a call may have before this one, the newest first. An answer is judged; what stands before answers is judged with them.
--- A fix may have read its page in; every other answer comes alone so far.
+-- A fix may have read its page in, and a clean may have written pages; every other answer comes alone so far.
 abbrev pub MayPrecede : List Kind → Kind → Type 0
 MayPrecede made (kind.Load p f) = ⊤
 MayPrecede made (kind.Fix p f clock now) = (made ≡ []) ⊎ (made ≡ kind.Load p f ∷ [])
@@ -40,14 +89,14 @@ MayPrecede made (kind.Undo from) = ⊤
 MayPrecede made (kind.Shrink chunks) = ⊤
 MayPrecede made (kind.Grow chunks) = ⊤
 MayPrecede made (kind.Resize bytes chunks) = made ≡ []
-MayPrecede made (kind.Clean written skipped) = made ≡ []
+MayPrecede made (kind.Clean written skipped) = AreWrites made
 MayPrecede made (kind.Check lsn) = made ≡ []
 MayPrecede made (kind.WatchSet p) = made ≡ []
 MayPrecede made (kind.WatchAt p f) = made ≡ []
 MayPrecede made (kind.Occurred p arrived) = made ≡ []
 MayPrecede made (kind.Unwatch p) = made ≡ []
 MayPrecede made (kind.Dump pct ids) = made ≡ []
-MayPrecede made (kind.Refused asked why) = made ≡ []
+MayPrecede made (kind.Refused asked why) = MayPrecedeRefusal made asked
 
 -- a page that has no home and has a value is read into the next frame
 pub record IsLoad (o : Opening) (past : List Event) (p : PageId) (f : ℕ) : Type 0 where
@@ -60,32 +109,61 @@ pub record IsFix (past : List Event) (p : PageId) (f clock : ℕ) : Type 0 where
   pub resident : home (entries past) p ≡ Some f
   pub unchanged : clock ≡ change (entries past) f
 
--- no page is dirty so far, so a clean writes none and skips none
-abbrev pub IsClean : ℕ → List (ℕ × Word) → Type 0
-IsClean written skipped = (written ≡ 0) × (skipped ≡ [])
+-- bytes of a page that the caller has fixed were changed, and the record of the change stands in the log behind that of every earlier one
+pub record IsPut (o : Opening) (past : List Event) (c : ℕ) (p : PageId) (at : ℕ) (bytes : List ℕ) (start end : ℕ) : Type 0 where
+  pub held : IsSome (newest_of (held_by past c) p)
+  pub some : 0 < length bytes
+  pub header : 38 ≤ at
+  pub trailer : at + length bytes ≤ page_bytes o.config.page - 8
+  pub behind : log_end (entries past) ≤ start
+  pub record_is : end ≡ start + 21 + length bytes
 
--- entries of a kind that no call makes so far are not legal
-abbrev pub IsLegalKind : Opening → List Event → Kind → Type 0
-IsLegalKind o past (kind.Load p f) = IsLoad o past p f
-IsLegalKind o past (kind.Fix p f clock now) = IsFix past p f clock
-IsLegalKind o past (kind.Create p f start end now) = ⊥
-IsLegalKind o past (kind.Put p at bytes start end) = ⊥
-IsLegalKind o past (kind.Evict p f passed) = ⊥
-IsLegalKind o past (kind.Write p lsn upto) = ⊥
-IsLegalKind o past (kind.Move p from to) = ⊥
-IsLegalKind o past (kind.Withdraw from) = ⊥
-IsLegalKind o past (kind.Undo from) = ⊥
-IsLegalKind o past (kind.Shrink chunks) = ⊥
-IsLegalKind o past (kind.Grow chunks) = ⊥
-IsLegalKind o past (kind.Resize bytes chunks) = ⊥
-IsLegalKind o past (kind.Clean written skipped) = IsClean written skipped
-IsLegalKind o past (kind.Check lsn) = ⊥
-IsLegalKind o past (kind.WatchSet p) = ⊥
-IsLegalKind o past (kind.WatchAt p f) = ⊥
-IsLegalKind o past (kind.Occurred p arrived) = ⊥
-IsLegalKind o past (kind.Unwatch p) = ⊥
-IsLegalKind o past (kind.Dump pct ids) = ⊥
-IsLegalKind o past (kind.Refused asked why) = ⊤
+abbrev pub listed : Option PageId → List PageId
+listed None = []
+listed (Some p) = p ∷ []
+
+-- the pages that were written, in their order; the newest entry stands first
+abbrev pub written_pages : List Kind → List PageId
+written_pages [] = []
+written_pages (k ∷ made) = written_pages made ++ listed (written_page k)
+
+-- the pages of dirty ones
+abbrev pub pages_of : List Dirty → List PageId
+pages_of ds = map (λ (d : Dirty). d.page) ds
+
+-- the history before the call under way
+abbrev pub before_call : List Event → ℕ → List Entry
+before_call past c = drop (length (under_way past c)) (entries past)
+
+-- The first of the pages that were dirty before the call were written, in their order. No frame is latched, so none was skipped.
+pub record IsClean (past : List Event) (c written : ℕ) (skipped : List (ℕ × Word)) : Type 0 where
+  pub rest : List PageId
+  pub oldest : pages_of (dirty (before_call past c)) ≡ written_pages (under_way past c) ++ rest
+  pub count : written ≡ length (under_way past c)
+  pub none_skipped : skipped ≡ []
+
+-- Entries of a kind that no call makes so far are not legal. What a write needs stands beside (`IsCovered`).
+abbrev pub IsLegalKind : Opening → List Event → ℕ → Kind → Type 0
+IsLegalKind o past c (kind.Load p f) = IsLoad o past p f
+IsLegalKind o past c (kind.Fix p f clock now) = IsFix past p f clock
+IsLegalKind o past c (kind.Create p f start end now) = ⊥
+IsLegalKind o past c (kind.Put p at bytes start end) = IsPut o past c p at bytes start end
+IsLegalKind o past c (kind.Evict p f passed) = ⊥
+IsLegalKind o past c (kind.Write p lsn upto) = ⊤
+IsLegalKind o past c (kind.Move p from to) = ⊥
+IsLegalKind o past c (kind.Withdraw from) = ⊥
+IsLegalKind o past c (kind.Undo from) = ⊥
+IsLegalKind o past c (kind.Shrink chunks) = ⊥
+IsLegalKind o past c (kind.Grow chunks) = ⊥
+IsLegalKind o past c (kind.Resize bytes chunks) = ⊥
+IsLegalKind o past c (kind.Clean written skipped) = IsClean past c written skipped
+IsLegalKind o past c (kind.Check lsn) = ⊥
+IsLegalKind o past c (kind.WatchSet p) = ⊥
+IsLegalKind o past c (kind.WatchAt p f) = ⊥
+IsLegalKind o past c (kind.Occurred p arrived) = ⊥
+IsLegalKind o past c (kind.Unwatch p) = ⊥
+IsLegalKind o past c (kind.Dump pct ids) = ⊥
+IsLegalKind o past c (kind.Refused asked why) = ⊤
 
 -- bytes were copied from a page that the caller has fixed, at the clock of its frame
 pub record IsCopy (o : Opening) (past : List Event) (c : ℕ) (p : PageId) (at : ℕ) (bytes : List ℕ) (clock : ℕ) : Type 0 where
@@ -110,7 +188,7 @@ pub record IsLegalEntry (o : Opening) (past : List Event) (e : Entry) : Type 0 w
   pub number : e.number ≡ next_number past e.caller
   pub together : IsTogether past e.caller
   pub before : MayPrecede (under_way past e.caller) e.kind
-  pub kind : IsLegalKind o past e.kind
+  pub kind : IsLegalKind o past e.caller e.kind
 
 pub record IsLegalReceipt (o : Opening) (past : List Event) (r : Receipt) : Type 0 where
   pub place : r.place ≡ mark o.first (entries past)

@@ -2,9 +2,13 @@ pub mod Events
 pub mod Places
 pub mod Book
 pub mod History
+pub mod Dirt
+pub mod Saved
+pub mod Order
 pub mod Calls
 pub mod Opening
 pub mod Legal
+pub mod Covered
 pub mod Causes
 pub mod Laws
 pub mod Promises

@@ -27,8 +27,11 @@ abbrev pub is_own : Call → Cause → Bool
 is_own (call.Fix p now) (cause.NoSuchPage pages) = true
 is_own (call.Fix p now) (cause.DiskFault before after) = true
 is_own (call.Fix p now) (cause.BadPage bad) = true
+is_own (call.Put p at bytes) (cause.LogSpent end) = true
+is_own (call.Put p at bytes) cause.Unheld = true
 is_own (call.Read p at len) cause.Unheld = true
 is_own (call.Unfix p) cause.Unheld = true
+is_own (call.Clean bound) (cause.RedoFault before after) = true
 is_own (call.Clean bound) (cause.DiskFault before after) = true
 is_own _ _ = false
 

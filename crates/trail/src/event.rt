@@ -292,6 +292,15 @@ pub struct Held {
     pub number: u32,
 }
 
+/// A page that was changed since it was last written: the start LSN of the first such change, and the end LSN of the last
+/// (InnoDB's `oldest_modification` and `newest_modification`).
+#[derive(Clone, Copy, Debug, PartialEq, Eq)]
+pub struct Dirty {
+    pub page: PageId,
+    pub oldest: u64,
+    pub newest: u64,
+}
+
 /// An instance's history with the receipts of all its passes, each behind the entry of its place.
 #[derive(Debug, Drop)]
 pub struct Trail {

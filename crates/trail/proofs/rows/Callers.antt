@@ -24,26 +24,30 @@ both_good c = record {
   first = refl;
   each = (
     record {
-      legal = record { place = refl; number = refl; together = inl refl; before = refl; kind = (refl, refl) };
+      legal = record { place = refl; number = refl; together = inl refl; before = tt; kind = record { rest = []; oldest = refl; count = refl; none_skipped = refl } };
       still = tt;
+      covered = tt;
       causes = refl;
     },
     (
       record {
         legal = record { place = refl; order = inl (omega arith); number = refl; before = refl; note = (0, omega arith, refl) };
         still = tt;
+        covered = tt;
         causes = refl;
       },
       (
         record {
           legal = record { place = refl; order = tt; number = refl; before = refl; note = (0, omega arith, refl) };
           still = tt;
+          covered = tt;
           causes = refl;
         },
         (
           record {
             legal = record { place = refl; number = refl; together = inl refl; before = inl refl; kind = record { resident = refl; unchanged = refl } };
             still = tt;
+            covered = tt;
             causes = refl;
           },
           (fix_lawful c, (load_lawful c, tt)),

@@ -43,6 +43,7 @@ pub load_outside : (c : Content) → IsLawful (opening (λ p. Some c)) [] (entry
 load_outside c = record {
   legal = record { place = refl; number = refl; together = inl refl; before = tt; kind = record { absent = refl; next = refl; sound = refl } };
   still = tt;
+  covered = tt;
   causes = tt;
 }
 
@@ -87,6 +88,7 @@ pub fault_at_the_end : (c : Content) → IsLawful (opening (pages_of c)) [] (ent
 fault_at_the_end c = record {
   legal = record { place = refl; number = refl; together = inl refl; before = refl; kind = tt };
   still = tt;
+  covered = tt;
   causes = (refl, (omega arith, omega arith));
 }
 
@@ -95,6 +97,7 @@ pub fault_at_resident : (c : Content) → IsLawful (opening (pages_of c)) fixed 
 fault_at_resident c = record {
   legal = record { place = refl; number = refl; together = inl refl; before = refl; kind = tt };
   still = tt;
+  covered = tt;
   causes = (refl, (omega arith, omega arith));
 }
 

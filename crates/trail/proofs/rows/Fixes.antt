@@ -52,6 +52,7 @@ pub load_other_lawful : (c : Content) → IsLawful (opening (pages_of c)) unfixe
 load_other_lawful c = record {
   legal = record { place = refl; number = refl; together = inl refl; before = tt; kind = record { absent = refl; next = refl; sound = refl } };
   still = tt;
+  covered = tt;
   causes = tt;
 }
 
@@ -73,6 +74,7 @@ pub load_twice_lawful : (c : Content) → IsLawful (opening (pages_of c)) loaded
 load_twice_lawful c = record {
   legal = record { place = refl; number = refl; together = inr refl; before = tt; kind = record { absent = refl; next = refl; sound = refl } };
   still = tt;
+  covered = tt;
   causes = tt;
 }
 
@@ -122,7 +124,7 @@ unfix_by_other c h = none_among the_fix h.legal.note
 
 -- a clean tells a written page, and none is dirty
 pub clean_wrote : (c : Content) → IsLawful (opening (pages_of c)) unfixed (entry 3 0 1 (kind.Clean 1 [])) → ⊥
-clean_wrote c h = omega (arith, h.legal.kind.0)
+clean_wrote c h = omega (arith, h.legal.kind.count)
 
 -- a fixed page doesn't leave its frame
 pub evict_fixed : (caller number : ℕ) → IsStill fixed (entry 3 caller number (kind.Evict (page 0) 0 [])) → ⊥
@@ -146,4 +148,4 @@ no_guess c h = h.legal.note
 
 -- a clean tells a skipped frame, and none is dirty
 pub clean_skipped : (c : Content) (found : Word) → IsLawful (opening (pages_of c)) unfixed (entry 3 0 1 (kind.Clean 0 ((0, found) ∷ []))) → ⊥
-clean_skipped c found h = let none : ◌≡◌ {A = List (ℕ × Word)} ((0, found) ∷ []) [] = h.legal.kind.1 in absurd (cc)
+clean_skipped c found h = let none : ◌≡◌ {A = List (ℕ × Word)} ((0, found) ∷ []) [] = h.legal.kind.none_skipped in absurd (cc)

@@ -30,6 +30,7 @@ pub load_lawful : (c : Content) → IsLawful (opening (pages_of c)) [] (entry 1 
 load_lawful c = record {
   legal = record { place = refl; number = refl; together = inl refl; before = tt; kind = record { absent = refl; next = refl; sound = refl } };
   still = tt;
+  covered = tt;
   causes = tt;
 }
 
@@ -38,6 +39,7 @@ pub fix_lawful : (c : Content) → IsLawful (opening (pages_of c)) loaded (entry
 fix_lawful c = record {
   legal = record { place = refl; number = refl; together = inr refl; before = inr refl; kind = record { resident = refl; unchanged = refl } };
   still = tt;
+  covered = tt;
   causes = refl;
 }
 
@@ -46,6 +48,7 @@ pub copy_lawful : (c : Content) → HasZeros c → IsLawful (opening (pages_of c
 copy_lawful c zeros = record {
   legal = record { place = refl; order = tt; number = refl; before = refl; note = record { held = refl; read = sym zeros; unchanged = refl } };
   still = tt;
+  covered = tt;
   causes = refl;
 }
 
@@ -54,14 +57,16 @@ pub unfix_lawful : (c : Content) → IsLawful (opening (pages_of c)) copied (rec
 unfix_lawful c = record {
   legal = record { place = refl; order = inr (refl, omega arith); number = refl; before = refl; note = (0, omega arith, refl) };
   still = tt;
+  covered = tt;
   causes = refl;
 }
 
 -- no page is dirty
 pub clean_lawful : (c : Content) → IsLawful (opening (pages_of c)) unfixed (entry 3 0 1 (kind.Clean 0 []))
 clean_lawful c = record {
-  legal = record { place = refl; number = refl; together = inl refl; before = refl; kind = (refl, refl) };
+  legal = record { place = refl; number = refl; together = inl refl; before = tt; kind = record { rest = []; oldest = refl; count = refl; none_skipped = refl } };
   still = tt;
+  covered = tt;
   causes = refl;
 }
 

@@ -1,5 +1,5 @@
 -- Trails whose places, call numbers or order are wrong.
-use Rattle.std.proofs.Common.{◌≡◌, ◌≢◌, ℕ, List, [], ◌∷◌, ◌<◌, ◌⊎◌, inl, inr, refl, arith}
+use Rattle.std.proofs.Common.{◌≡◌, ◌≢◌, ℕ, List, [], ◌∷◌, ◌<◌, ◌⊎◌, inl, inr, refl, arith, true, false}
 use Rattle.page_ids.specs.Content.{Content}
 use Rattle.trail.specs.declared.event.Kind.TheVariants as kind
 use Rattle.trail.specs.declared.event.Note.TheVariants as note
@@ -45,6 +45,7 @@ parted_good c = (
   record {
     legal = record { place = refl; number = refl; together = inl refl; before = refl; kind = tt };
     still = tt;
+    covered = tt;
     causes = refl;
   },
   (load_lawful c, tt),
@@ -84,6 +85,7 @@ pub second_first_lawful : (c : Content) → IsLawful (opening (pages_of c)) fixe
 second_first_lawful c = record {
   legal = record { place = refl; order = tt; number = refl; before = refl; note = tt };
   still = tt;
+  covered = tt;
   causes = refl;
 }
 
@@ -105,7 +107,7 @@ refusal_behind_load c h = let none : kind.Load (page 0) 0 ∷ [] ≡ [] = h.lega
 
 -- a clean comes behind a load of its call
 pub clean_behind_load : (c : Content) → IsLawful (opening (pages_of c)) loaded (entry 2 1 1 (kind.Clean 0 [])) → ⊥
-clean_behind_load c h = let none : kind.Load (page 0) 0 ∷ [] ≡ [] = h.legal.before in absurd (cc)
+clean_behind_load c h = let none : false ≡ true = h.legal.before.0 in absurd (cc)
 
 -- a trail begins at another place than its instance
 pub other_first : (c : Content) (first : ℕ) → first ≢ 0 → IsLawfulTrail (opening (pages_of c)) (record (trail closed) { first = first }) → ⊥

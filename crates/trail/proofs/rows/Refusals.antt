@@ -19,8 +19,9 @@ nothing_done o = record {
   first = refl;
   each = (
     record {
-      legal = record { place = refl; number = refl; together = inl refl; before = refl; kind = (refl, refl) };
+      legal = record { place = refl; number = refl; together = inl refl; before = tt; kind = record { rest = []; oldest = refl; count = refl; none_skipped = refl } };
       still = tt;
+      covered = tt;
       causes = refl;
     },
     tt,
@@ -50,6 +51,7 @@ pub miss_lawful : (c : Content) → IsLawful (opening (pages_of c)) [] (entry 1 
 miss_lawful c = record {
   legal = record { place = refl; number = refl; together = inl refl; before = refl; kind = tt };
   still = tt;
+  covered = tt;
   causes = refl;
 }
 
@@ -58,6 +60,7 @@ pub miss_again_lawful : (c : Content) → IsLawful (opening (pages_of c)) missed
 miss_again_lawful c = record {
   legal = record { place = refl; number = refl; together = inl refl; before = refl; kind = tt };
   still = tt;
+  covered = tt;
   causes = refl;
 }
 
@@ -66,6 +69,7 @@ pub no_read_lawful : (c : Content) → IsLawful (opening (pages_of c)) missed_ag
 no_read_lawful c = record {
   legal = record { place = refl; order = tt; number = refl; before = refl; note = tt };
   still = tt;
+  covered = tt;
   causes = refl;
 }
 
@@ -74,6 +78,7 @@ pub no_unfix_lawful : (c : Content) → IsLawful (opening (pages_of c)) not_read
 no_unfix_lawful c = record {
   legal = record { place = refl; order = inr (refl, omega arith); number = refl; before = refl; note = tt };
   still = tt;
+  covered = tt;
   causes = refl;
 }
 
@@ -83,8 +88,9 @@ outside_pages c = record {
   first = refl;
   each = (
     record {
-      legal = record { place = refl; number = refl; together = inl refl; before = refl; kind = (refl, refl) };
+      legal = record { place = refl; number = refl; together = inl refl; before = tt; kind = record { rest = []; oldest = refl; count = refl; none_skipped = refl } };
       still = tt;
+      covered = tt;
       causes = refl;
     },
     (no_unfix_lawful c, (no_read_lawful c, (miss_again_lawful c, (miss_lawful c, tt)))),
@@ -102,6 +108,7 @@ pub unsound_lawful : (c : Content) → IsLawful (opening (pages_but c)) [] (entr
 unsound_lawful c = record {
   legal = record { place = refl; number = refl; together = inl refl; before = refl; kind = tt };
   still = tt;
+  covered = tt;
   causes = (refl, (λ same. omega (arith, same)));
 }
 
@@ -111,8 +118,9 @@ unsound_page c = record {
   first = refl;
   each = (
     record {
-      legal = record { place = refl; number = refl; together = inl refl; before = refl; kind = (refl, refl) };
+      legal = record { place = refl; number = refl; together = inl refl; before = tt; kind = record { rest = []; oldest = refl; count = refl; none_skipped = refl } };
       still = tt;
+      covered = tt;
       causes = refl;
     },
     (unsound_lawful c, tt),
@@ -136,6 +144,7 @@ pub fail_lawful : (c : Content) → IsLawful (opening (pages_of c)) [] (entry 1 
 fail_lawful c = record {
   legal = record { place = refl; number = refl; together = inl refl; before = refl; kind = tt };
   still = tt;
+  covered = tt;
   causes = (refl, (omega arith, omega arith));
 }
 
@@ -144,6 +153,7 @@ pub load_next_lawful : (c : Content) → IsLawful (opening (pages_of c)) failed 
 load_next_lawful c = record {
   legal = record { place = refl; number = refl; together = inl refl; before = tt; kind = record { absent = refl; next = refl; sound = refl } };
   still = tt;
+  covered = tt;
   causes = tt;
 }
 
@@ -153,20 +163,23 @@ failed_read c = record {
   first = refl;
   each = (
     record {
-      legal = record { place = refl; number = refl; together = inl refl; before = refl; kind = (refl, refl) };
+      legal = record { place = refl; number = refl; together = inl refl; before = tt; kind = record { rest = []; oldest = refl; count = refl; none_skipped = refl } };
       still = tt;
+      covered = tt;
       causes = refl;
     },
     (
       record {
         legal = record { place = refl; order = tt; number = refl; before = refl; note = (0, omega arith, refl) };
         still = tt;
+        covered = tt;
         causes = refl;
       },
       (
         record {
           legal = record { place = refl; number = refl; together = inr refl; before = inr refl; kind = record { resident = refl; unchanged = refl } };
           still = tt;
+          covered = tt;
           causes = refl;
         },
         (load_next_lawful c, (fail_lawful c, tt)),
@@ -182,8 +195,9 @@ failed_close o = record {
   first = refl;
   each = (
     record {
-      legal = record { place = refl; number = refl; together = inl refl; before = refl; kind = tt };
+      legal = record { place = refl; number = refl; together = inl refl; before = tt; kind = tt };
       still = tt;
+      covered = tt;
       causes = (refl, (omega arith, omega arith));
     },
     tt,

@@ -1,80 +1,146 @@
-use Rattle.std.proofs.Common.{◌≡◌, ℕ, List, [], ◌∷◌, Option, None, IfSome, ap, ◌∙◌, sym, subst, rules, arith, reverse}
+use Rattle.std.proofs.Common.{◌≡◌, ◌≤◌, ℕ, List, [], ◌∷◌, Option, None, Some, IfSome, ap, ◌∙◌, sym, subst, refl, rules, arith, reverse, length}
+use Rattle.std.specs.List.{AllByRecursion}
+use Rattle.std.specs.Prelude.{unwrap_or}
+use Rattle.std.proofs.lemmas.List.{length-reverse}
 use Rattle.page_ids.specs.Content.{Content}
+use Rattle.page_ids.specs.Size.{page_bytes}
 use Rattle.page_ids.specs.declared.ids.PageId.{PageId}
 use Rattle.page_ids.specs.declared.config.Config.{Config}
-use Rattle.page_disk.specs.Disks.{IsSameDisk, pages_in}
+use Rattle.page_disk.specs.Disks.{pages_in}
+use Rattle.redo_mark.specs.Device.{Told}
+use Rattle.redo_mark.specs.Logs.{Seen, IsAllKept}
+use Rattle.trail.specs.declared.event.Entry.{Entry}
 use Rattle.trail.specs.declared.event.Receipt.{Receipt}
 use Rattle.trail.specs.declared.event.Event.{Event}
 use Rattle.trail.specs.Opening.{Opening}
 use Rattle.trail.specs.Merging.{lists, merged, AllWithin}
 use Rattle.trail.specs.Places.{AreNumbered, mark, entries}
+use Rattle.trail.specs.Dirt.{log_end}
+use Rattle.desk.specs.Base.{Opened, IsBase}
+use Rattle.desk.specs.Behind.{IsBehind, IsOpening}
+use Rattle.desk.specs.Logged.{IsLogged}
 use Rattle.desk.specs.Steps.{IsFresh}
 use Rattle.script_text.specs.Plan.{commands_of}
+use Rattle.script_text.specs.Within.{IsInRange}
 use Rattle.script_text.specs.declared.script.Command.{Command}
-use Rattle.script_run.specs.Openings.{IsBase, opening_of, AreFaultsWithin}
-use Rattle.script_run.specs.Work.{Working, SoFar, Worked}
+use Rattle.script_run.specs.Openings.{Start, opening_of, opened_of, AreFaultsWithin}
+use Rattle.script_run.specs.Work.{Working, SoFar, StandsBehind, Worked, senses}
 use Rattle.script_run.specs.Workers.{working}
-use Rattle.script_run.specs.Work.{senses}
+use Rattle.script_run.specs.Runs.{IsDiskOf, AreKept, EndsBehind, reports}
 use Rattle.script_run.proofs.Finished.{so_far_new, finished, Merges}
+use Rattle.script_run.proofs.Growing.{on_some}
+use Rattle.script_run.proofs.Resting.{ends_behind, are_durable, are_kept, extended, disk_of}
 use Rattle.script_run.proofs.runner.run_on.Goals as goal
 
-pub returns-clause-disk : goal.returns-clause-disk
-returns-clause-disk g c =
+none_held : {A : Type 0} (xs : List A) → reverse xs ≡ [] → length xs ≡ 0
+none_held xs e = sym (length-reverse xs) ∙ ap (length {A = _}) e
+
+pub work-requires-clause-new : goal.work-requires-clause-new
+work-requires-clause-new g c κs within = none_held c.new-worker.result.fixed.items (ap (λ (w : Working). w.fixed) c.new-worker.ensures)
+
+pub work-requires-clause-ranges : goal.work-requires-clause-ranges
+work-requires-clause-ranges g c κs within =
+    let R : Config → List Command → Type 0 = λ config commands. AllByRecursion (IsInRange config.page) commands in
+    let there : R c.args.script.now.config (commands_of c.args.script.now) = c.requires.script.ranges in
+    let config : c.in-Ok-new.desk.state.config ≡ c.args.script.now.config = c.in-Ok-new.ensures.fresh.config_is ∙ c.config-config.ensures in
+    subst (λ x. R x c.commands.result.now) (sym config) (subst (λ l. R c.args.script.now.config l) (sym c.commands.ensures) there)
+
+pub returns-clause-run : goal.returns-clause-run
+returns-clause-run g c =
     let D = g.row.D.Denot in
-    let size = g.D.PageDisk.page_size in
+    let tells = g.D.PageDisk.tells in
     let told = g.D.PageDisk.told in
     let spaces = g.D.PageDisk.space_pages in
-    let faults = g.D.PageDisk.fault_count in
-    let S : D → D → Type 0 = λ a b. IsSameDisk size told spaces faults a b in
-    let start : D = c.in-Ok.desk.state.disk in
-    let worked : D = c.work.new.desk.state.disk in
-    let closed : D = c.close.new.desk.state.disk in
-    let first : S c.args.disk worked = let P : D → Type 0 = λ d. S d worked in subst P c.in-Ok.ensures.fresh.disk_is c.in_ok-work.ensures.disk in
-    let both : S c.args.disk closed = record {
-      sizes = c.close.ensures.disk.sizes ∙ first.sizes;
-      bytes = λ p. c.close.ensures.disk.bytes p ∙ first.bytes p;
-      spaces_are = λ s. c.close.ensures.disk.spaces_are s ∙ first.spaces_are s;
-      later = omega (arith, first.later, c.close.ensures.disk.later);
-    } in
-    let P : D → Type 0 = λ d. S c.args.disk d in subst P (sym c.end-disk.ensures.disk) both
-
-pub returns-clause-trail : goal.returns-clause-trail
-returns-clause-trail g c =
-    let D = g.row.D.Denot in
-    let sense = senses g.D.PageDisk.page_size g.D.PageDisk.told g.D.PageDisk.space_pages g.D.PageDisk.fault_count in
+    let sense = senses g.D.PageDisk.page_size tells told spaces g.D.PageDisk.fault_count in
+    let report = reports g.R.RedoDisk.told g.R.RedoDisk.fault_count in
     let plan = c.args.script.now in
     let disk : D = c.args.disk in
     let last : D = c.end-disk.result.0 in
+    let start : Start = record { told = told disk; disk_faults = sense.faults disk; log_faults = report.faults c.args.log } in
     let desk = c.work.new.desk.state in
     let new = c.close.new.desk.state in
+    let was : Seen = c.work.new.redo.seen in
+    let is : Seen = c.close.new.redo.seen in
     let w : Working = working c.work.new.self in
     let history = c.end-disk.result.1.items in
     let account = c.into_account-account.result.items in
     let trail = c.merge-trail.result in
+    let end = c.close-redo.result in
     let fault = c.in_ok-fault.fault in
     let last_is : last ≡ new.disk = c.end-disk.ensures.disk in
     let config_is : c.config-config.result.now ≡ plan.config = c.config-config.ensures in
-    let F : Config → Type 0 = λ config. IsFresh c.in-Ok.desk.state config 0 disk in
-    let fresh = subst F config_is c.in-Ok.ensures.fresh in
+    let F : Config → Type 0 = λ config. IsFresh c.in-Ok-new.desk.state config 0 disk in
+    let fresh = subst F config_is c.in-Ok-new.ensures.fresh in
     let pushed : c.push.new.self.items ≡ c.into_account-account.result ∷ [] = search rules in
     let listed : lists c.push.new.self.items ≡ account ∷ [] = ap lists pushed in
     let M : ℕ → Type 0 = λ first. AreNumbered first (reverse history) → AllWithin (mark first (reverse history)) (lists c.push.new.self.items) → trail.events ≡ merged first history (lists c.push.new.self.items) in
     let N : List (List Receipt) → Type 0 = λ accounts. AreNumbered plan.config.first (reverse history) → AllWithin (mark plan.config.first (reverse history)) accounts → trail.events ≡ merged plan.config.first history accounts in
     let merges = subst N listed (subst M (ap (λ (x : Config). x.first) config_is) c.merge-trail.ensures.events) in
     let law : Merges = record { numbered = c.one_account_merges.ensures.numbered; within = c.one_account_merges.ensures.within; merged_is = c.one_account_merges.ensures.merged } in
+    let front = c.dirty_pages_are_apart.ensures.front in
     let spaces_are : (s : ℕ) → sense.spaces last s ≡ sense.spaces disk s = λ s.
-    ap (λ d. sense.spaces d s) last_is ∙ c.close.ensures.disk.spaces_are s ∙ c.in_ok-work.ensures.disk.spaces_are s ∙ ap (λ d. sense.spaces d s) fresh.disk_is in
-    let C : List Command → Type 0 = λ commands. (o : Opening) (low : ℕ) (past : List Event) → SoFar sense o low c.in-Ok.desk.state (working c.new-worker.result) past [] → Worked sense o low desk w past commands in
+    ap (λ d. sense.spaces d s) last_is ∙ c.close.ensures.spaces s ∙ c.in_ok-work.ensures.disk.spaces_are s ∙ ap (λ d. sense.spaces d s) fresh.disk_is in
+    let C : List Command → Type 0 = λ commands. (o : Opening) (begin : Start) (past : List Event) → SoFar sense o begin c.in-Ok-new.desk.state c.in-Ok.redo.seen (working c.new-worker.result) past []
+    → StandsBehind sense o begin c.in-Ok-new.desk.state → Worked sense o begin desk was w past commands in
     let done = subst C c.commands.ensures c.in_ok-work.ensures.done in
-    let L : D → Type 0 = λ d. AreFaultsWithin (sense.faults disk) (sense.faults d) (entries (reverse trail.events)) in
-    let all = λ (base : Option (PageId → Option Content)) (based : IfSome base (λ first. IsBase (sense.told disk) (pages_in (sense.spaces last)) first)).
+    let opened : (o : Opening) (first : PageId → Option Content) → o.config ≡ plan.config → o.pages ≡ pages_in (sense.spaces last) → IsBase (told disk) o.pages first → IsOpening told spaces (opened_of o start first) (sense.size disk) disk =
+    λ o first config pages based. record {
+      size_is = c.requires.size ∙ ap (λ (x : Config). page_bytes x.page) (sym config);
+      pages_are = λ s. ap (λ (f : ℕ → ℕ). f s) pages ∙ ap (λ n. unwrap_or n 0) (spaces_are s);
+      told_are = λ p. refl;
+      based = based;
+    } in
+    let behind : (o : Opened) → IsOpening told spaces o (sense.size disk) disk → IsBehind tells told spaces o new = λ o opening.
+    c.close.ensures.behind o (c.in_ok-work.ensures.behind o (c.in-Ok-new.ensures.behind o opening)) in
+    let worked = λ (base : Option (PageId → Option Content)) (based : IfSome base (λ first. IsBase (told disk) (pages_in (sense.spaces last)) first)).
     let o = opening_of plan.config base (sense.spaces last) in
-    let so = so_far_new sense plan.config base (sense.spaces last) c.in-Ok.desk.state (working c.new-worker.result) 1 disk fresh c.new-worker.ensures spaces_are based in
-    finished sense o (sense.faults disk) desk new w (commands_of plan) fault history account trail
-    (c.in_ok-work.ensures.pass ∙ ap (λ (x : Working). x.pass) c.new-worker.ensures) (done o (sense.faults disk) [] so)
+    let so = so_far_new sense plan.config base (sense.spaces last) start c.in-Ok-new.desk.state c.in-Ok.redo.seen (working c.new-worker.result) 1 disk fresh c.new-worker.ensures spaces_are
+    (omega arith) (omega (arith, c.in-Ok.ensures.fresh.faults)) in
+    let stands : StandsBehind sense o start c.in-Ok-new.desk.state = on_some base _ _ (λ first e is_base. c.in-Ok-new.ensures.behind (opened_of o start first) (opened o first refl refl is_base)) based in
+    done o start [] so stands in
+    let all = λ (base : Option (PageId → Option Content)) (based : IfSome base (λ first. IsBase (told disk) (pages_in (sense.spaces last)) first)).
+    finished sense (opening_of plan.config base (sense.spaces last)) start desk new was is w (commands_of plan) fault history account trail front
+    (c.in_ok-work.ensures.pass ∙ ap (λ (x : Working). x.pass) c.new-worker.ensures) (worked base based)
     c.in_ok-fault.ensures.closed c.in_ok-fault.ensures.fault c.end-disk.ensures.history c.into_account-account.ensures law
-    (c.merge-trail.ensures.first ∙ ap (λ (x : Config). x.first) config_is) merges c.close.ensures.disk.later in
+    (c.merge-trail.ensures.first ∙ ap (λ (x : Config). x.first) config_is) merges c.close.ensures.counted c.close.ensures.later.faults in
+    let o = opening_of plan.config None (sense.spaces last) in
+    let one = all None tt in
+    let here : entries (reverse trail.events) ≡ new.history = one.1 in
+    let L : D → ℕ → List Entry → Type 0 = λ d n h. AreFaultsWithin start (sense.faults d) n h in
+    let first_is : is.first ≡ plan.config.lsn = c.close.ensures.later.first ∙ c.in_ok-work.ensures.log.first ∙ c.in-Ok.ensures.fresh.first ∙ ap (λ (x : Config). x.lsn) config_is in
+    let past : List Event = reverse trail.events in
+    let good = one.0.lawful.each in
+    let H : List Entry → Type 0 = λ h. IsLogged is h in
+    let logged : IsLogged is (entries past) = subst H (sym here) (c.close.ensures.logged (worked None tt).so_far.logged) in
+    let K : List Entry → Type 0 = λ h. log_end h ≤ is.end in
+    let B : ℕ → Type 0 = λ n. EndsBehind n (entries past) in
+    let A : ℕ → Type 0 = λ n. AreKept n (report.told end.disk) (entries past) in
+    let W : Option Told → ℕ → Type 0 = λ t n. IsAllKept n t is (report.told end.disk) in
+    let opening_is : c.close.new.redo.opening ≡ report.told c.args.log = c.close.ensures.opening ∙ c.in_ok-work.ensures.opening ∙ c.in-Ok.ensures.disk.1 in
+    let lsn_is = ap (λ (x : Config). x.lsn) config_is in
+    let opened_is : g.R.RedoDisk.opened end.disk ≡ g.R.RedoDisk.opened c.args.log =
+    omega (arith, c.close-redo.ensures.opened, c.close.ensures.later.opened, c.in_ok-work.ensures.log.opened, c.in-Ok.ensures.fresh.opened, first_is, lsn_is) in
     record {
+      trail = trail;
+      disk = last;
+      end = end;
+      trails_are = refl;
+      disks_are = refl;
+      log_is = refl;
       run = λ base based. (all base based).0;
-      faults_are = subst L (sym last_is) (all None tt).1;
+      faults = subst (λ h. L last (report.faults end.disk) h) (sym here) (subst (λ n. L last n new.history) c.close-redo.ensures.faults (subst (λ d. L d is.faults new.history) (sym last_is) one.2));
+      spaces_are = spaces_are;
+      holds = λ base is_base.
+          let o = opened_of (opening_of plan.config (Some base) (sense.spaces last)) start base in
+          let stands = behind o (opened (opening_of plan.config (Some base) (sense.spaces last)) base refl refl is_base) in
+          let at = disk_of tells told spaces o new fault stands (λ fine p inside. c.clean_disk_holds_the_values.ensures o new stands (c.in_ok-fault.ensures.closed.clean fine) p inside) in
+          subst (λ h. IsDiskOf o.size base o.pages (told disk) (told last) fault h) (sym here) (subst (λ d. IsDiskOf o.size base o.pages (told disk) (told d) fault new.history) (sym last_is) at);
+      logs = record {
+        ends = subst B (sym c.close-redo.ensures.end) (ends_behind o past is good logged (subst K (sym here) c.close.ensures.known));
+        durable = c.close-redo.ensures.durable.1;
+        extended = extended (g.R.RedoDisk.opened c.args.log) (report.told c.args.log) (report.told end.disk) is (subst (W (report.told c.args.log)) opened_is (subst (λ t. W t (g.R.RedoDisk.opened end.disk)) opening_is c.close-redo.ensures.all)) c.requires.opened;
+        kept = λ fine.
+            let durable : log_end (entries past) ≤ is.durable = c.a_clean_history_is_durable.ensures o past is.durable good (are_durable is (entries past) logged) (one.0.clean fine) in
+            subst A first_is (are_kept o past is (report.told end.disk) end.durable c.close-redo.ensures.records good logged (omega (arith, durable, c.close-redo.ensures.durable.0)));
+      };
     }

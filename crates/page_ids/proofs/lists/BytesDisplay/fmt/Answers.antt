@@ -1,4 +1,4 @@
-use Rattle.std.proofs.Common.{rules, get_or, take, arith, ◌+◌, ◌<◌}
+use Rattle.std.proofs.Common.{rules, get_or, arith}
 use Rattle.std.proofs.Output.{has_written_append, has_written_of_eq}
 use Rattle.page_ids.proofs.Hex.{hex_of, hex_more}
 use Rattle.page_ids.proofs.lists.BytesDisplay.fmt.Goals as goal

@@ -1,4 +1,4 @@
-use Rattle.std.proofs.Common.{rules, get_or, take, drop, arith, length, ◌+◌, ◌-◌, ◌<◌, ◌∷◌, List}
+use Rattle.std.proofs.Common.{rules, get_or, take, drop, length, ◌-◌, ◌∷◌}
 use Rattle.std.proofs.Output.{has_written_append, has_written_of_eq}
 use Rattle.page_ids.specs.Spelling.{page_text}
 use Rattle.page_ids.specs.declared.ids.PageId.{PageId}

@@ -1,4 +1,4 @@
-use Rattle.std.proofs.Common.{rules, get_or, take, drop, arith, length, ◌+◌, ◌-◌, ◌<◌, ◌∷◌, List, ℕ}
+use Rattle.std.proofs.Common.{rules, get_or, take, drop, length, ◌-◌, ◌∷◌, ℕ}
 use Rattle.std.proofs.Output.{has_written_append, has_written_of_eq}
 use Rattle.page_ids.specs.Spelling.{frame_text}
 use Rattle.page_ids.specs.declared.frame_word.Word.{Word}

@@ -1,6 +1,6 @@
 use Rattle.std.proofs.Common.{take}
 use Rattle.std.specs.Fmt.{HasWritten, IsPlainFormatter}
-use Rattle.page_ids.specs.Spelling.{listed, page_text, frame_text}
+use Rattle.page_ids.specs.Spelling.{listed, frame_text}
 use Rattle.page_ids.proofs.lists.WordsDisplay.fmt.Given as goal
 
 abbrev pub invariant-loop-frame : goal.invariant-loop-frame

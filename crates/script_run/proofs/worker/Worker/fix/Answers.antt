@@ -1,4 +1,12 @@
-use Rattle.std.proofs.Common.{◌≡◌, ◌+◌, List, [], ◌∷◌, ◌++◌, subst, sym, ap, ◌∙◌, reverse, inl, inr}
+use Rattle.std.proofs.Common.{◌≡◌, ◌+◌, List, [], ◌∷◌, ◌++◌, Option, None, IsSome, IfOk, Result, Err, subst, sym, ap, ◌∙◌, reverse, inl, inr}
+use Rattle.page_ids.specs.Size.{page_bytes}
+use Rattle.page_ids.specs.Content.{Content}
+use Rattle.page_ids.specs.declared.ids.PageId.{PageId}
+use Rattle.trail.specs.declared.event.Entry.{Entry}
+use Rattle.trail.specs.History.{value}
+use Rattle.trail.specs.Opening.{OnValue}
+use Rattle.desk.specs.declared.calls.Granted.{Granted}
+use Rattle.script_run.specs.Openings.{opened_of}
 use Rattle.trail.specs.declared.event.Held.{Held}
 use Rattle.script_text.specs.declared.script.Command.TheVariants as command
 use Rattle.script_run.specs.Work.{Working, Does, Along}
@@ -7,14 +15,14 @@ use Rattle.script_run.specs.Work.{senses}
 use Rattle.script_run.proofs.Fixes.{reverse-push}
 use Rattle.desk.specs.declared.calls.FixErr.{FixErr}
 use Rattle.desk.specs.Steps.{IsFixRefusal}
-use Rattle.script_run.proofs.Growing.{me}
+use Rattle.script_run.proofs.Growing.{me, on_some}
 use Rattle.script_run.proofs.Along.{along_hit, along_miss, along_refused}
 use Rattle.script_run.proofs.Doing.{does_hit, does_miss, does_outside, does_faulted, does_unsound}
 use Rattle.script_run.proofs.worker.Worker.fix.Goals as goal
 
 pub returns-in-Ok : goal.returns-in-Ok
 returns-in-Ok g c =
-    let sense = senses g.D.PageDisk.page_size g.D.PageDisk.told g.D.PageDisk.space_pages g.D.PageDisk.fault_count in
+    let sense = senses g.D.PageDisk.page_size g.D.PageDisk.tells g.D.PageDisk.told g.D.PageDisk.space_pages g.D.PageDisk.fault_count in
     let p = c.args.page in
     let w : Working = working c.args.self.now in
     let old = c.args.desk.now.state in
@@ -25,23 +33,29 @@ returns-in-Ok g c =
     ap reverse (c.push_reserved.ensures.items ∙ ap (λ xs. xs ++ held ∷ []) c.in_ok-reserve.ensures.items) ∙ reverse-push c.args.self.now.fixed.items held in
     let make : List Held → Working = λ fixed. record { pass = w.pass; next = w.next + 1; fixed = fixed; account = w.account } in
     record {
-      along =
-          let W : Working → Type 0 = λ after. Along sense 1 old new w after in
+      along = λ log.
+          let W : Working → Type 0 = λ after. Along sense 1 old new log log w after in
           subst W (ap make (sym grown)) (elim c.in-Ok.ensures.granted [
-            | inl hit ↦ along_hit sense old new w p c.args.now granted hit c.fix_at.ensures.disk
-            | inr miss ↦ along_miss sense old new w p c.args.now granted miss c.fix_at.ensures.disk
+            | inl hit ↦ along_hit sense old new log w p c.args.now granted hit c.fix_at.ensures.disk c.fix_at.ensures.behind
+            | inr miss ↦ along_miss sense old new log w p c.args.now granted miss c.fix_at.ensures.disk c.fix_at.ensures.behind
           ]);
-      done = λ o low past so.
-          let W : Working → Type 0 = λ after. Does sense o low new after past (command.Fix p c.args.now) in
+      done = λ o start log past so stands.
+          let W : Working → Type 0 = λ after. Does sense o start new log after past (command.Fix p c.args.now) in
+          let size = page_bytes o.config.page in
+          let V : Result Granted FixErr → PageId → (PageId → Option Content) → Type 0 = λ r q base. IfOk r (λ _. IsSome (value size base old.history q)) in
+          let H : List Entry → (PageId → Option Content) → Type 0 = λ h base. IsSome (value size base h p) in
+          let sound : OnValue o past p (λ v. IsSome v) = on_some o.base _ _ (λ base is behind.
+          let there : IsSome (value size base old.history p) = let R : Result Granted FixErr → Type 0 = λ r. V r p base in subst R c.in-Ok.is (c.fix_at.ensures.valued (opened_of o start base) behind) in
+          let E : List Entry → Type 0 = λ h. H h base in subst E (sym so.entries_are) there) stands in
           subst W (ap make (sym grown)) (elim c.in-Ok.ensures.granted [
-            | inl hit ↦ does_hit sense o low old new w past p c.args.now granted so hit c.in-Ok.ensures.inside
-            | inr miss ↦ does_miss sense o low old new w past p c.args.now granted so miss c.fix_at.ensures.disk c.in-Ok.ensures.inside
+            | inl hit ↦ does_hit sense o start old new log w past p c.args.now granted so hit c.in-Ok.ensures.inside
+            | inr miss ↦ does_miss sense o start old new log w past p c.args.now granted so miss c.fix_at.ensures.disk c.in-Ok.ensures.inside sound
           ]);
     }
 
 pub returns-in-Err-NoSuchPage : goal.returns-in-Err-NoSuchPage
 returns-in-Err-NoSuchPage g c =
-    let sense = senses g.D.PageDisk.page_size g.D.PageDisk.told g.D.PageDisk.space_pages g.D.PageDisk.fault_count in
+    let sense = senses g.D.PageDisk.page_size g.D.PageDisk.tells g.D.PageDisk.told g.D.PageDisk.space_pages g.D.PageDisk.fault_count in
     let p = c.args.page in
     let w : Working = working c.args.self.now in
     let old = c.args.desk.now.state in
@@ -51,13 +65,13 @@ returns-in-Err-NoSuchPage g c =
     let make : List Held → Working = λ fixed. record { pass = w.pass; next = w.next + 1; fixed = reverse fixed; account = w.account } in
     let same = sym c.in_ok-reserve.ensures.items in
     record {
-      along = let W : List Held → Type 0 = λ fixed. Along sense 1 old new w (make fixed) in subst W same (along_refused sense old new w p c.args.now _ is.entry c.fix_at.ensures.disk);
-      done = λ o low past so. let W : List Held → Type 0 = λ fixed. Does sense o low new (make fixed) past (command.Fix p c.args.now) in subst W same (does_outside sense o low old new w past p c.args.now _ so is);
+      along = λ log. let W : List Held → Type 0 = λ fixed. Along sense 1 old new log log w (make fixed) in subst W same (along_refused sense old new log w p c.args.now _ is.entry c.fix_at.ensures.disk c.fix_at.ensures.behind);
+      done = λ o start log past so stands. let W : List Held → Type 0 = λ fixed. Does sense o start new log (make fixed) past (command.Fix p c.args.now) in subst W same (does_outside sense o start old new log w past p c.args.now _ so is);
     }
 
 pub returns-in-Err-DiskFault : goal.returns-in-Err-DiskFault
 returns-in-Err-DiskFault g c =
-    let sense = senses g.D.PageDisk.page_size g.D.PageDisk.told g.D.PageDisk.space_pages g.D.PageDisk.fault_count in
+    let sense = senses g.D.PageDisk.page_size g.D.PageDisk.tells g.D.PageDisk.told g.D.PageDisk.space_pages g.D.PageDisk.fault_count in
     let p = c.args.page in
     let w : Working = working c.args.self.now in
     let old = c.args.desk.now.state in
@@ -67,13 +81,13 @@ returns-in-Err-DiskFault g c =
     let make : List Held → Working = λ fixed. record { pass = w.pass; next = w.next + 1; fixed = reverse fixed; account = w.account } in
     let same = sym c.in_ok-reserve.ensures.items in
     record {
-      along = let W : List Held → Type 0 = λ fixed. Along sense 1 old new w (make fixed) in subst W same (along_refused sense old new w p c.args.now _ is.1.entry c.fix_at.ensures.disk);
-      done = λ o low past so. let W : List Held → Type 0 = λ fixed. Does sense o low new (make fixed) past (command.Fix p c.args.now) in subst W same (does_faulted sense o low old new w past p c.args.now _ _ so is.1 c.fix_at.ensures.disk is.0);
+      along = λ log. let W : List Held → Type 0 = λ fixed. Along sense 1 old new log log w (make fixed) in subst W same (along_refused sense old new log w p c.args.now _ is.1.entry c.fix_at.ensures.disk c.fix_at.ensures.behind);
+      done = λ o start log past so stands. let W : List Held → Type 0 = λ fixed. Does sense o start new log (make fixed) past (command.Fix p c.args.now) in subst W same (does_faulted sense o start old new log w past p c.args.now _ _ so is.1 c.fix_at.ensures.disk is.0);
     }
 
 pub returns-in-Err-BadPage : goal.returns-in-Err-BadPage
 returns-in-Err-BadPage g c =
-    let sense = senses g.D.PageDisk.page_size g.D.PageDisk.told g.D.PageDisk.space_pages g.D.PageDisk.fault_count in
+    let sense = senses g.D.PageDisk.page_size g.D.PageDisk.tells g.D.PageDisk.told g.D.PageDisk.space_pages g.D.PageDisk.fault_count in
     let p = c.args.page in
     let w : Working = working c.args.self.now in
     let old = c.args.desk.now.state in
@@ -83,6 +97,11 @@ returns-in-Err-BadPage g c =
     let make : List Held → Working = λ fixed. record { pass = w.pass; next = w.next + 1; fixed = reverse fixed; account = w.account } in
     let same = sym c.in_ok-reserve.ensures.items in
     record {
-      along = let W : List Held → Type 0 = λ fixed. Along sense 1 old new w (make fixed) in subst W same (along_refused sense old new w p c.args.now _ is.1.entry c.fix_at.ensures.disk);
-      done = λ o low past so. let W : List Held → Type 0 = λ fixed. Does sense o low new (make fixed) past (command.Fix p c.args.now) in subst W same (does_unsound sense o low old new w past p c.args.now _ so is.1 c.fix_at.ensures.disk is.0);
+      along = λ log. let W : List Held → Type 0 = λ fixed. Along sense 1 old new log log w (make fixed) in subst W same (along_refused sense old new log w p c.args.now _ is.1.entry c.fix_at.ensures.disk c.fix_at.ensures.behind);
+      done = λ o start log past so stands.
+          let size = page_bytes o.config.page in
+          let none_there : OnValue o past p (λ v. v ≡ None) = on_some o.base _ _ (λ base is behind.
+          let none : value size base old.history p ≡ None = c.fix_at.ensures.unsound (opened_of o start base) _ behind (c.in-Err-BadPage.is ∙ ap (λ (e : FixErr). Err e) c.in-Err-BadPage.field-0-is) in
+          ap (λ h. value size base h p) so.entries_are ∙ none) stands in
+          let W : List Held → Type 0 = λ fixed. Does sense o start new log (make fixed) past (command.Fix p c.args.now) in subst W same (does_unsound sense o start old new log w past p c.args.now _ so is.1 c.fix_at.ensures.disk is.0 none_there);
     }

@@ -17,23 +17,23 @@ copied-requires-clause-resident g c = λ _ _. held_resident c.args.desk.now.stat
 
 pub returns-then-is_none : goal.returns-then-is_none
 returns-then-is_none g c =
-    let sense = senses g.D.PageDisk.page_size g.D.PageDisk.told g.D.PageDisk.space_pages g.D.PageDisk.fault_count in
+    let sense = senses g.D.PageDisk.page_size g.D.PageDisk.tells g.D.PageDisk.told g.D.PageDisk.space_pages g.D.PageDisk.fault_count in
     let w : Working = working c.args.self.now in
     let desk = c.args.desk.now.state in
     let n : Note = note.Refused (call.Read c.args.page c.args.at c.args.len) cause.Unheld in
     let none : newest_of w.fixed c.args.page ≡ None = search rules in
     record {
-      along = on_ok c.note.result _ _ (λ e.
-          let W : Working → Type 0 = λ after. Along sense 1 desk desk w after in
-          subst W (sym (e ∙ ap (λ place. noted_at place w n) c.mark-place.ensures)) (along_kept sense desk w n refl)) c.note.ensures.noted;
-      done = on_ok c.note.result _ _ (λ e o low past so.
-          let W : Working → Type 0 = λ after. Does sense o low desk after past (command.Read c.args.page c.args.at c.args.len) in
-          subst W (sym (e ∙ ap (λ place. noted_at place w n) c.mark-place.ensures)) (does_unheld_read sense o low desk w past c.args.page c.args.at c.args.len so none)) c.note.ensures.noted;
+      along = on_ok c.note.result _ _ (λ e log.
+          let W : Working → Type 0 = λ after. Along sense 1 desk desk log log w after in
+          subst W (sym (e ∙ ap (λ place. noted_at place w n) c.mark-place.ensures)) (along_kept sense desk log w n refl)) c.note.ensures.noted;
+      done = on_ok c.note.result _ _ (λ e o start log past so stands.
+          let W : Working → Type 0 = λ after. Does sense o start desk log after past (command.Read c.args.page c.args.at c.args.len) in
+          subst W (sym (e ∙ ap (λ place. noted_at place w n) c.mark-place.ensures)) (does_unheld_read sense o start desk log w past c.args.page c.args.at c.args.len so none)) c.note.ensures.noted;
     }
 
 pub returns : goal.returns
 returns g c =
-    let sense = senses g.D.PageDisk.page_size g.D.PageDisk.told g.D.PageDisk.space_pages g.D.PageDisk.fault_count in
+    let sense = senses g.D.PageDisk.page_size g.D.PageDisk.tells g.D.PageDisk.told g.D.PageDisk.space_pages g.D.PageDisk.fault_count in
     let w : Working = working c.args.self.now in
     let desk = c.args.desk.now.state in
     let p = c.args.page in
@@ -41,11 +41,11 @@ returns g c =
     let n : Note = note.Copied p c.args.at r.bytes r.clock in
     let some : IsSome (newest_of w.fixed p) = search rules in
     record {
-      along = on_ok c.note-2.result _ _ (λ e.
-          let W : Working → Type 0 = λ after. Along sense 1 desk desk w after in
-          subst W (sym (e ∙ ap (λ place. noted_at place w n) c.mark-place.ensures)) (along_kept sense desk w n refl)) c.note-2.ensures.noted;
-      done = on_ok c.note-2.result _ _ (λ e o low past so.
-          let W : Working → Type 0 = λ after. Does sense o low desk after past (command.Read p c.args.at c.args.len) in
+      along = on_ok c.note-2.result _ _ (λ e log.
+          let W : Working → Type 0 = λ after. Along sense 1 desk desk log log w after in
+          subst W (sym (e ∙ ap (λ place. noted_at place w n) c.mark-place.ensures)) (along_kept sense desk log w n refl)) c.note-2.ensures.noted;
+      done = on_ok c.note-2.result _ _ (λ e o start log past so stands.
+          let W : Working → Type 0 = λ after. Does sense o start desk log after past (command.Read p c.args.at c.args.len) in
           subst W (sym (e ∙ ap (λ place. noted_at place w n) c.mark-place.ensures))
-          (does_copied sense o low desk w past p c.args.at c.args.len (newest_of w.fixed p) r.bytes r.clock so refl some r.ensures.long r.ensures.bytes r.ensures.clock)) c.note-2.ensures.noted;
+          (does_copied sense o start desk log w past p c.args.at c.args.len (newest_of w.fixed p) r.bytes r.clock so stands refl some r.ensures.long r.ensures.bytes r.ensures.clock)) c.note-2.ensures.noted;
     }

@@ -17,24 +17,24 @@ use Rattle.script_run.proofs.worker.Worker.unfix.Goals as goal
 
 pub returns-in_default : goal.returns-in_default
 returns-in_default g c =
-    let sense = senses g.D.PageDisk.page_size g.D.PageDisk.told g.D.PageDisk.space_pages g.D.PageDisk.fault_count in
+    let sense = senses g.D.PageDisk.page_size g.D.PageDisk.tells g.D.PageDisk.told g.D.PageDisk.space_pages g.D.PageDisk.fault_count in
     let w : Working = working c.args.self.now in
     let desk = c.args.desk.now.state in
     let p = c.args.page in
     let n : Note = note.Refused (call.Unfix p) cause.Unheld in
     let none : newest_of w.fixed p ≡ None = search rules in
     record {
-      along = on_ok c.note.result _ _ (λ e.
-          let W : Working → Type 0 = λ after. Along sense 1 desk desk w after in
-          subst W (sym (e ∙ ap (λ place. noted_at place w n) c.mark-place.ensures)) (along_kept sense desk w n refl)) c.note.ensures.noted;
-      done = on_ok c.note.result _ _ (λ e o low past so.
-          let W : Working → Type 0 = λ after. Does sense o low desk after past (command.Unfix p) in
-          subst W (sym (e ∙ ap (λ place. noted_at place w n) c.mark-place.ensures)) (does_unheld_unfix sense o low desk w past p so none)) c.note.ensures.noted;
+      along = on_ok c.note.result _ _ (λ e log.
+          let W : Working → Type 0 = λ after. Along sense 1 desk desk log log w after in
+          subst W (sym (e ∙ ap (λ place. noted_at place w n) c.mark-place.ensures)) (along_kept sense desk log w n refl)) c.note.ensures.noted;
+      done = on_ok c.note.result _ _ (λ e o start log past so stands.
+          let W : Working → Type 0 = λ after. Does sense o start desk log after past (command.Unfix p) in
+          subst W (sym (e ∙ ap (λ place. noted_at place w n) c.mark-place.ensures)) (does_unheld_unfix sense o start desk log w past p so none)) c.note.ensures.noted;
     }
 
 pub returns : goal.returns
 returns g c =
-    let sense = senses g.D.PageDisk.page_size g.D.PageDisk.told g.D.PageDisk.space_pages g.D.PageDisk.fault_count in
+    let sense = senses g.D.PageDisk.page_size g.D.PageDisk.tells g.D.PageDisk.told g.D.PageDisk.space_pages g.D.PageDisk.fault_count in
     let w : Working = working c.args.self.now in
     let desk = c.args.desk.now.state in
     let p = c.args.page in
@@ -48,13 +48,13 @@ returns g c =
     let e : working c.note-2.new.self ≡ noted_at c.mark-place.result w n = search rules in
     let left : c.remove-held.new.self.items ≡ take at items ++ drop (suc at) items = c.remove-held.ensures.items ∙ ap (λ v. remove v.items at) c.note-2.ensures.fixed in
     record {
-      along = along_removed sense desk w (record { pass = c.note-2.new.self.pass; next = c.note-2.new.self.next; fixed = reverse c.remove-held.new.self.items; account = reverse c.note-2.new.self.account.items })
+      along = λ log. along_removed sense desk log w (record { pass = c.note-2.new.self.pass; next = c.note-2.new.self.next; fixed = reverse c.remove-held.new.self.items; account = reverse c.note-2.new.self.account.items })
           items c.remove-held.new.self.items at h refl refl left read (ap (λ (x : Working). x.pass) e) (ap (λ (x : Working). x.next) e);
-      done = λ o low past so.
-          let W : Working → Type 0 = λ after. Does sense o low desk after past (command.Unfix p) in
+      done = λ o start log past so stands.
+          let W : Working → Type 0 = λ after. Does sense o start desk log after past (command.Unfix p) in
           let back : reverse c.remove-held.new.self.items ≡ given_back h.number w.fixed = ap reverse left ∙ sym (given_remove items at h w.next read so.falling) in
           let is : working (record c.note-2.new.self { fixed = c.remove-held.new.self }) ≡ noted desk w n =
           ap (λ (x : Working). record x { fixed = reverse c.remove-held.new.self.items }) e ∙ ap (λ fixed. record (noted_at c.mark-place.result w n) { fixed = fixed }) back
           ∙ ap (λ place. record (noted_at place w n) { fixed = given_back h.number w.fixed }) c.mark-place.ensures in
-          subst W (sym is) (does_unfix sense o low desk w past p h so newest);
+          subst W (sym is) (does_unfix sense o start desk log w past p h so newest);
     }

@@ -6,6 +6,6 @@ use Rattle.script_run.proofs.worker.Worker.work.Goals as goal
 
 pub returns-clause-done : goal.returns-clause-done
 returns-clause-done g c =
-    let sense = senses g.D.PageDisk.page_size g.D.PageDisk.told g.D.PageDisk.space_pages g.D.PageDisk.fault_count in
-    on_ok c.give_back_all.result _ _ (λ f o low past so.
-    f o low past c.args.commands.now (ending_start sense o low c.do_all.new.desk.state (working c.do_all.new.self) past c.args.commands.now (c.in_ok-do_all.ensures.done o low past so))) c.give_back_all.ensures.done
+    let sense = senses g.D.PageDisk.page_size g.D.PageDisk.tells g.D.PageDisk.told g.D.PageDisk.space_pages g.D.PageDisk.fault_count in
+    on_ok c.give_back_all.result _ _ (λ f o start past so stands.
+    f o start c.do_all.new.redo.seen past c.args.commands.now (ending_start sense o start c.do_all.new.desk.state c.do_all.new.redo.seen (working c.do_all.new.self) past c.args.commands.now (c.in_ok-do_all.ensures.done o start past so stands))) c.give_back_all.ensures.done

@@ -1,0 +1,23 @@
+use Rattle.std.proofs.Common.{arith}
+use Rattle.desk.proofs.Behind.{behind_synced}
+use Rattle.desk.proofs.Cleaning.{fault_wider}
+use Rattle.desk.proofs.desk.Desk.flush.Goals as goal
+
+pub returns-in-Ok-sync-clause-behind : goal.returns-in-Ok-sync-clause-behind
+returns-in-Ok-sync-clause-behind g c = λ o before.
+    let same = c.sync.ensures.desk in
+    behind_synced g.D.PageDisk.tells g.D.PageDisk.told g.D.PageDisk.space_pages o g.D.PageDisk.page_size g.D.PageDisk.fault_count c.write_back_all.new.self.state c.sync.new.self.state
+    same.config same.instance c.sync.ensures.history same.images c.sync.ensures.same (c.write_back_all.ensures.behind o before)
+
+pub returns-in-Err-sync-clause-behind : goal.returns-in-Err-sync-clause-behind
+returns-in-Err-sync-clause-behind g c = λ o before.
+    let same = c.sync.ensures.desk in
+    behind_synced g.D.PageDisk.tells g.D.PageDisk.told g.D.PageDisk.space_pages o g.D.PageDisk.page_size g.D.PageDisk.fault_count c.write_back_all.new.self.state c.sync.new.self.state
+    same.config same.instance c.sync.ensures.history same.images c.sync.ensures.same (c.write_back_all.ensures.behind o before)
+
+pub returns-in-Err-sync-clause-fault : goal.returns-in-Err-sync-clause-fault
+returns-in-Err-sync-clause-fault g c =
+    let log = c.args.redo.now.seen.faults in
+    let last = c.write_back_all.new.redo.seen.faults in
+    fault_wider (g.D.PageDisk.fault_count c.write_back_all.new.self.state.disk) (g.D.PageDisk.fault_count c.sync.new.self.state.disk) log last (g.D.PageDisk.fault_count c.args.self.now.state.disk) log
+    c.in-Err-sync.error c.write_back_all.ensures.desk.later (omega arith) (c.in-Err-sync.ensures.fault log last)

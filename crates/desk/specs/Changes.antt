@@ -1,0 +1,127 @@
+-- What a put does, and what a clean does.
+use Rattle.std.specs.Prelude.{ℕ, zero, suc, List, [], ◌∷◌, ◌≡◌, ◌+◌, ◌-◌, ◌<◌, ◌≤◌, ◌^◌, ◌⊎◌, Bool, true, Option, Some, length, slice_get, slice_set}
+use Rattle.page_ids.specs.Content.{Content, patched}
+use Rattle.page_ids.specs.Layout.{IsPage}
+use Rattle.page_ids.specs.declared.ids.PageId.{PageId}
+use Rattle.trail.specs.declared.event.Call.TheVariants as call
+use Rattle.trail.specs.declared.event.Cause.{Cause}
+use Rattle.trail.specs.declared.event.Cause.TheVariants as cause
+use Rattle.trail.specs.declared.event.Dirty.{Dirty}
+use Rattle.trail.specs.declared.event.Kind.{Kind}
+use Rattle.trail.specs.declared.event.Kind.TheVariants as kind
+use Rattle.trail.specs.declared.event.Entry.{Entry}
+use Rattle.trail.specs.Places.{mark}
+use Rattle.trail.specs.History.{home}
+use Rattle.trail.specs.Dirt.{dirty}
+use Rattle.desk.specs.State.{State}
+use Rattle.desk.specs.Steps.{IsAppended, next_entry}
+use Rattle.desk.specs.Reads.{RoseWithin}
+use Rattle.desk.specs.declared.calls.Caller.{Caller}
+use Rattle.desk.specs.declared.calls.PutDone.{PutDone}
+use Rattle.desk.specs.declared.calls.PutErr.{PutErr}
+use Rattle.desk.specs.declared.calls.PutErr.TheVariants as unput
+use Rattle.desk.specs.declared.calls.CleanErr.{CleanErr}
+use Rattle.desk.specs.declared.calls.CleanErr.TheVariants as unclean
+use Rattle.desk.specs.declared.flush.WriteErr.{WriteErr}
+use Rattle.desk.specs.declared.flush.WriteErr.TheVariants as unwritten
+
+-- a range of the body of a page of this size, not empty, behind the header and before the trailer
+pub record IsBody (size at len : ℕ) : Type 0 where
+  pub some : 0 < len
+  pub header : 38 ≤ at
+  pub trailer : at + len ≤ size - 8
+
+-- The record starts at this LSN; the page's image has the bytes and the record's end as its LSN, and the entry was appended. No other image changed, nor the disk.
+pub record IsPutBy {D : Type 0} (old new : State D) (by : Caller) (p : PageId) (at : ℕ) (bytes : List ℕ) (done : PutDone) : Type 0 where
+  pub frame : ℕ
+  pub content : Content
+  pub start : ℕ
+  pub resident : home old.history p ≡ Some frame
+  pub image : slice_get old.images frame ≡ Some content
+  pub lsn : done.lsn ≡ start + 21 + length bytes
+  pub place : done.place ≡ mark old.config.first old.history + 1
+  pub history : new.history ≡ next_entry old by (kind.Put p at bytes start done.lsn) ∷ old.history
+  pub images : new.images ≡ slice_set old.images frame (patched content at bytes done.lsn)
+  pub config : new.config ≡ old.config
+  pub instance : new.instance ≡ old.instance
+  pub disk : new.disk ≡ old.disk
+
+-- the log ended here at the refusal, and the record would end above 2^63; the page is as it was
+pub record IsSpentBy {D : Type 0} (old new : State D) (by : Caller) (p : PageId) (at : ℕ) (bytes : List ℕ) (first last end : ℕ) : Type 0 where
+  pub known : (first ≤ end) × (end ≤ last)
+  pub beyond : 2 ^ 63 < end + 21 + length bytes
+  pub entry : IsAppended old new by (kind.Refused (call.Put p at bytes) (cause.LogSpent end))
+  pub disk : new.disk ≡ old.disk
+
+-- why a put was refused, and what stands then; the log's end went from `first` to `last`
+abbrev pub IsPutRefusal : {D : Type 0} → State D → State D → Caller → PageId → ℕ → List ℕ → ℕ → ℕ → PutErr → Type 0
+IsPutRefusal old new by p at bytes first last unput.OutOfMemory = new ≡ old
+IsPutRefusal old new by p at bytes first last (unput.LogSpent end) = IsSpentBy old new by p at bytes first last end
+
+-- the caller's entry at the next place of a history
+abbrev pub entry_behind : ℕ → List Entry → Caller → Kind → Entry
+entry_behind first h by k = record { place = mark first h + 1; caller = by.pass; number = by.number; kind = k }
+
+-- where the disk tells, the page's bytes are those of the image
+pub record IsImageTold {D : Type 0} (tells : D → Bool) (told : D → PageId → Option (List ℕ)) (p : PageId) (content : Content) (old new : D) : Type 0 where
+  pub bytes : List ℕ
+  pub page : IsPage p bytes content
+  pub tells_it : tells old ≡ true → told new p ≡ Some bytes
+
+-- the counts of faults of the disk or of the log rose so, within a call in which they went from the first to the second
+abbrev pub IsWriteFault : ℕ → ℕ → ℕ → ℕ → WriteErr → Type 0
+IsWriteFault disk_was disk_is log_was log_is (unwritten.RedoFault before after) = RoseWithin log_was log_is before after
+IsWriteFault disk_was disk_is log_was log_is (unwritten.DiskFault before after) = RoseWithin disk_was disk_is before after
+
+-- what writes leave of a desk and its disk; no count of faults fell
+pub record LeavesDesk {D : Type 0} (size : D → ℕ) (tells : D → Bool) (spaces : D → ℕ → Option ℕ) (faults : D → ℕ) (old new : State D) : Type 0 where
+  pub config : new.config ≡ old.config
+  pub instance : new.instance ≡ old.instance
+  pub images : new.images ≡ old.images
+  pub sizes : size new.disk ≡ size old.disk
+  pub telling : tells new.disk ≡ tells old.disk
+  pub spaces_are : (space : ℕ) → spaces new.disk space ≡ spaces old.disk space
+  pub later : faults old.disk ≤ faults new.disk
+
+-- the page that was dirty first was written with its newest LSN, the log durable up to there at least
+pub record IsWriteBack (first : ℕ) (by : Caller) (old new : List Entry) : Type 0 where
+  pub oldest : Dirty
+  pub rest : List Dirty
+  pub upto : ℕ
+  pub first_is : dirty old ≡ oldest ∷ rest
+  pub covered : oldest.newest ≤ upto
+  pub entry : new ≡ entry_behind first old by (kind.Write oldest.page oldest.newest upto) ∷ old
+
+-- so many pages were written, one after the other
+abbrev pub WritesBack : ℕ → Caller → ℕ → List Entry → List Entry → Type 0
+WritesBack first by zero old new = new ≡ old
+WritesBack first by (suc n) old new = (mid : List Entry) × WritesBack first by n old mid × IsWriteBack first by mid new
+
+-- so many pages were written, and then the call's answer was appended; images stay
+pub record IsCleanedBy {D : Type 0} (old new : State D) (by : Caller) (written : ℕ) (answer : Kind) : Type 0 where
+  pub mid : List Entry
+  pub writes : WritesBack old.config.first by written old.history mid
+  pub history : new.history ≡ entry_behind old.config.first mid by answer ∷ mid
+  pub images : new.images ≡ old.images
+  pub config : new.config ≡ old.config
+  pub instance : new.instance ≡ old.instance
+
+-- so many were written, no more than the bound; all that were dirty where they are fewer
+pub record IsCleaned {D : Type 0} (old new : State D) (by : Caller) (bound written : ℕ) : Type 0 where
+  pub cleaned : IsCleanedBy old new by written (kind.Clean written [])
+  pub most : written ≤ bound
+  pub all : (written ≡ bound) ⊎ (dirty new.history ≡ [])
+
+-- a refused clean keeps what it had written before the device failed
+pub record IsUncleaned {D : Type 0} (old new : State D) (by : Caller) (bound : ℕ) (why : Cause) : Type 0 where
+  pub written : ℕ
+  pub cleaned : IsCleanedBy old new by written (kind.Refused (call.Clean bound) why)
+  pub most : written ≤ bound
+
+-- why a clean was refused, and what stands then; the devices' counts of faults went from the first to the second
+abbrev pub IsCleanRefusal : {D : Type 0} → State D → State D → Caller → ℕ → ℕ → ℕ → ℕ → ℕ → CleanErr → Type 0
+IsCleanRefusal old new by bound disk_was disk_is log_was log_is unclean.OutOfMemory = new ≡ old
+IsCleanRefusal old new by bound disk_was disk_is log_was log_is (unclean.RedoFault before after) =
+    RoseWithin log_was log_is before after × IsUncleaned old new by bound (cause.RedoFault before after)
+IsCleanRefusal old new by bound disk_was disk_is log_was log_is (unclean.DiskFault before after) =
+    RoseWithin disk_was disk_is before after × IsUncleaned old new by bound (cause.DiskFault before after)

@@ -1,0 +1,116 @@
+//! Writing a page behind its log.
+ghost use Rattle.std.specs.Prelude.{ℕ, ◌≡◌, ◌≤◌, OnOk, OnErr, IfOk, IfErr, length, vec_len};
+ghost use Rattle.page_disk.specs.Disks.{IsInside, IsSameDisk, IsOtherwiseSame, Fades};
+ghost use Rattle.redo_mark.specs.Logs.{IsLater, IsKept};
+ghost use Rattle.desk.specs.Reads.{IsFault, RoseWithin};
+ghost use Rattle.desk.specs.Changes.{IsImageTold, IsWriteFault};
+
+use page_disk::PageDisk;
+use page_ids::{Image, PageId, encode};
+use redo_mark::{CoverErr, Covered, Redo, RedoDisk};
+
+/// The counts of faults before and after a device's call that failed.
+#[derive(Clone, Copy, Debug)]
+pub(crate) struct Fault {
+    pub(crate) before: u64,
+    pub(crate) after: u64,
+}
+
+/// Why a page was not written: the log or the disk failed, with its counts of faults before and after.
+#[derive(Clone, Copy, Debug)]
+pub(crate) enum WriteErr {
+    RedoFault { before: u64, after: u64 },
+    DiskFault { before: u64, after: u64 },
+}
+
+/// Makes the log durable up to an LSN, behind which it doesn't end.
+fn cover<R: RedoDisk>(redo: &mut Redo<R>, lsn: u64) -> Result<Covered, Fault>
+    requires known { lsn ≤ redo.old.seen.end }
+    ensures ok { IfOk result (λ c. (lsn ≤ c) × (c ≡ redo.new.seen.durable)) }
+    ensures fault { IfErr result (λ f. RoseWithin redo.old.seen.faults redo.new.seen.faults f.before f.after) }
+    ensures later { IsLater redo.old.seen redo.new.seen }
+    ensures opening { redo.new.opening ≡ redo.old.opening }
+    ensures kept { IsKept redo.new.seen (R.told redo.new.disk) }
+{
+    match redo.cover(lsn) {
+        Ok(covered) => Ok(covered),
+        Err(CoverErr::Fault { before, after }) => Err(Fault { before, after }),
+        Err(CoverErr::BeyondEnd { .. }) => unreachable!(),
+    }
+}
+
+/// Writes a page's image through the buffer, where the log is durable up to its LSN.
+fn write_image<D: PageDisk>(
+    disk: &mut D,
+    page: PageId,
+    image: &Image,
+    covered: &Covered,
+    buffer: &mut Vec<u8>,
+) -> Result<(), Fault>
+    requires inside { IsInside (D.space_pages disk.old) page }
+    requires image { length image.now.bytes ≡ D.page_size disk.old }
+    requires buffer { vec_len buffer.old ≡ D.page_size disk.old }
+    requires covered { image.now.lsn ≤ covered.now }
+    ensures written { OnOk result (IsImageTold D.tells D.told page image.now disk.old disk.new) }
+    ensures failed { OnErr result (Fades (D.told disk.old page) (D.told disk.new page)) }
+    ensures others { IsOtherwiseSame D.page_size D.tells D.told D.space_pages D.fault_count page disk.old disk.new }
+    ensures fault { IfErr result (λ f. IsFault (D.fault_count disk.old) (D.fault_count disk.new) f.before f.after) }
+    ensures buffer { vec_len buffer.new ≡ vec_len buffer.old }
+{
+    let before = disk.faults();
+    let lsn = image.lsn();
+    encode(page, image, buffer.as_mut_slice());
+    if disk.write(page, buffer.as_slice(), lsn, covered).is_err() {
+        let after = disk.faults();
+        return Err(Fault { before, after });
+    }
+    Ok(())
+}
+
+/// Writes a page's image behind its log, and answers up to where the log was durable.
+///
+/// The log is made durable up to the page's LSN first: a page never stands on the disk without its changes in the log.
+pub(crate) fn write_page<D: PageDisk, R: RedoDisk>(
+    disk: &mut D,
+    redo: &mut Redo<R>,
+    page: PageId,
+    image: &Image,
+    buffer: &mut Vec<u8>,
+) -> Result<u64, WriteErr>
+    requires inside { IsInside (D.space_pages disk.old) page }
+    requires image { length image.now.bytes ≡ D.page_size disk.old }
+    requires buffer { vec_len buffer.old ≡ D.page_size disk.old }
+    requires known { image.now.lsn ≤ redo.old.seen.end }
+    ensures ok { IfOk result (λ upto. (image.now.lsn ≤ upto) × (upto ≤ redo.new.seen.durable)) }
+    ensures written { OnOk result (IsImageTold D.tells D.told page image.now disk.old disk.new) }
+    ensures failed { OnErr result (Fades (D.told disk.old page) (D.told disk.new page)) }
+    ensures others { IsOtherwiseSame D.page_size D.tells D.told D.space_pages D.fault_count page disk.old disk.new }
+    ensures fault { IfErr result (λ e. IsWriteFault (D.fault_count disk.old) (D.fault_count disk.new)
+        redo.old.seen.faults redo.new.seen.faults e) }
+    ensures buffer { vec_len buffer.new ≡ vec_len buffer.old }
+    ensures later { IsLater redo.old.seen redo.new.seen }
+    ensures opening { redo.new.opening ≡ redo.old.opening }
+    ensures kept { IsKept redo.new.seen (R.told redo.new.disk) }
+{
+    let covered = match cover(redo, image.lsn()) {
+        Ok(covered) => covered,
+        Err(Fault { before, after }) => return Err(WriteErr::RedoFault { before, after }),
+    };
+    match write_image(disk, page, image, &covered, buffer) {
+        Ok(()) => Ok(covered.upto()),
+        Err(Fault { before, after }) => Err(WriteErr::DiskFault { before, after }),
+    }
+}
+
+/// Syncs the disk.
+pub(crate) fn sync_pages<D: PageDisk>(disk: &mut D) -> Result<(), WriteErr>
+    ensures same { IsSameDisk D.page_size D.tells D.told D.space_pages D.fault_count disk.old disk.new }
+    ensures fault { (first last : ℕ) → IfErr result (λ e. IsWriteFault (D.fault_count disk.old) (D.fault_count disk.new) first last e) }
+{
+    let before = disk.faults();
+    if disk.sync().is_err() {
+        let after = disk.faults();
+        return Err(WriteErr::DiskFault { before, after });
+    }
+    Ok(())
+}

@@ -1,0 +1,5 @@
+pub mod Written
+pub mod Grids
+pub mod Cuts
+pub mod Follow
+pub mod Steps

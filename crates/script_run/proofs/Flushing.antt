@@ -1,0 +1,196 @@
+-- The closing flush: pages are written one after the other behind a trail in which nothing of the runner is under way.
+use Rattle.std.proofs.Common.{◌≡◌, ℕ, zero, suc, Bool, true, false, cond, not, List, [], ◌∷◌, ◌++◌, ◌+◌, ◌≤◌, ◌&&◌, inl, inr, Some, length, drop, refl, ap, ◌∙◌, sym, subst, nat_eq, filter, append_assoc, arith}
+use Rattle.page_ids.specs.Same.{same_page}
+use Rattle.page_ids.specs.declared.ids.PageId.{PageId}
+use Rattle.trail.specs.declared.event.Dirty.{Dirty}
+use Rattle.trail.specs.declared.event.Entry.{Entry}
+use Rattle.trail.specs.declared.event.Kind.{Kind}
+use Rattle.trail.specs.declared.event.Kind.TheVariants as kind
+use Rattle.trail.specs.declared.event.Event.{Event}
+use Rattle.trail.specs.declared.event.Event.TheVariants as event
+use Rattle.trail.specs.Places.{mark, entries, receipts}
+use Rattle.trail.specs.History.{disk_faults, log_faults}
+use Rattle.trail.specs.Dirt.{dirtied, cleaned, dirty, dirty_after, dirt_of}
+use Rattle.trail.specs.Calls.{caller_of, is_answer, next_number, under_way}
+use Rattle.trail.specs.Opening.{Opening}
+use Rattle.trail.specs.Legal.{IsTogether, AreWrites, written_pages, pages_of}
+use Rattle.trail.specs.Laws.{IsLawful, IsGood}
+use Rattle.trail.specs.Promises.{ArePromised}
+use Rattle.desk.specs.declared.calls.Caller.{Caller}
+use Rattle.desk.specs.Changes.{IsWriteBack, WritesBack, entry_behind}
+use Rattle.script_run.specs.Openings.{Start, AreFaultsWithin}
+use Rattle.script_run.specs.Runs.{AreOurs}
+use Rattle.script_run.proofs.Fixes.{same_self}
+
+-- the runner's one call
+abbrev pub runner : Caller
+runner = record { pass = 0; number = 1 }
+
+-- the first dirty page leaves by its write
+abbrev pub FrontLeaves : Type 0
+FrontLeaves = (h : List Entry) (e : Entry) (d : Dirty) (rest : List Dirty) (lsn upto : ℕ) → dirty h ≡ d ∷ rest → e.kind ≡ kind.Write d.page lsn upto → dirty (e ∷ h) ≡ rest
+
+-- so many writes of the runner stand behind this trail, and led to this history
+pub record Flushed (o : Opening) (start : Start) (disk log : ℕ) (past : List Event) (n : ℕ) (mid : List Entry) : Type 0 where
+  pub writes : List Event
+  pub good : IsGood o (writes ++ past)
+  pub promised : ArePromised o (writes ++ past)
+  pub entries_are : entries (writes ++ past) ≡ mid
+  pub receipts_are : receipts (writes ++ past) ≡ receipts past
+  pub number : next_number (writes ++ past) 0 ≡ 1
+  pub made : AreWrites (under_way (writes ++ past) 0)
+  pub count : length (under_way (writes ++ past) 0) ≡ n
+  pub together : IsTogether (writes ++ past) 0
+  pub before : drop n mid ≡ entries past
+  pub pages : pages_of (dirty (entries past)) ≡ written_pages (under_way (writes ++ past) 0) ++ pages_of (dirty mid)
+  pub others : (c : ℕ) → nat_eq 0 c ≡ false → under_way (writes ++ past) c ≡ under_way past c
+  pub quiet : (k : ℕ) → filter (λ e. nat_eq (caller_of e) k && is_answer e) (writes ++ past) ≡ filter (λ e. nat_eq (caller_of e) k && is_answer e) past
+  pub faults : AreFaultsWithin start disk log mid
+  pub last_fault : disk_faults mid ≡ disk_faults (entries past)
+  pub last_log_fault : log_faults mid ≡ log_faults (entries past)
+  pub ours : AreOurs past → AreOurs (writes ++ past)
+
+skip : {A : Type 0} (b : Bool) (x y : A) → b ≡ false → cond b x y ≡ y
+skip true x y bad = absurd (cc)
+skip false x y e = refl
+
+skip_both : {A : Type 0} (b : Bool) (x y : A) → cond (b && false) x y ≡ y
+skip_both true x y = refl
+skip_both false x y = refl
+
+found_first : (ds : List Dirty) (d : Dirty) (rest : List Dirty) → ds ≡ d ∷ rest → dirt_of ds d.page ≡ Some d
+found_first ds d rest is = ap (λ (l : List Dirty). dirt_of l d.page) is ∙ ap (λ (b : Bool). cond b (Some d) (dirt_of rest d.page)) (same_self d.page)
+
+flushed_none : (o : Opening) (start : Start) (disk log : ℕ) (past : List Event) → IsGood o past → ArePromised o past → next_number past 0 ≡ 1 → under_way past 0 ≡ []
+    → AreFaultsWithin start disk log (entries past) → Flushed o start disk log past 0 (entries past)
+flushed_none o start disk log past good promised number none faults =
+    let W : List Kind → Type 0 = λ l. AreWrites l in
+    record {
+      writes = [];
+      good = good;
+      promised = promised;
+      entries_are = refl;
+      receipts_are = refl;
+      number = number;
+      made = subst W (sym none) tt;
+      count = ap (length {A = Kind}) none;
+      together = inl none;
+      before = refl;
+      pages = ap (λ l. written_pages l ++ pages_of (dirty (entries past))) (sym none);
+      others = λ c other. refl;
+      quiet = λ k. refl;
+      faults = faults;
+      last_fault = refl;
+      last_log_fault = refl;
+      ours = λ was. was;
+    }
+
+flushed_more : (o : Opening) (start : Start) (disk log : ℕ) (past : List Event) (n : ℕ) (mid new : List Entry) → FrontLeaves
+    → Flushed o start disk log past n mid → IsWriteBack o.first runner mid new → Flushed o start disk log past (suc n) new
+flushed_more o start disk log past n mid new front f back =
+    let d = back.oldest in
+    let k = kind.Write d.page d.newest back.upto in
+    let x : Entry = entry_behind o.first mid runner k in
+    let e : Event = event.Entry x in
+    let found : dirt_of (dirty mid) d.page ≡ Some d = found_first (dirty mid) d back.rest back.first_is in
+    let D : List Entry → Type 0 = λ h. dirt_of (dirty h) d.page ≡ Some d in
+    let lawful : IsLawful o (f.writes ++ past) e = record {
+      legal = record {
+        place = ap (λ h. mark o.first h + 1) (sym f.entries_are);
+        number = sym f.number;
+        together = f.together;
+        before = tt;
+        kind = tt;
+      };
+      still = tt;
+      covered = record { dirt = d; is_dirty = subst D (sym f.entries_are) found; newest = refl; logged = back.covered };
+      causes = tt;
+    } in
+    let left : dirty new ≡ back.rest = ap dirty back.entry ∙ front mid x d back.rest d.newest back.upto back.first_is refl in
+    let made = under_way (f.writes ++ past) 0 in
+    let F : List Entry → Type 0 = λ h. AreFaultsWithin start disk log h in
+    record {
+      writes = e ∷ f.writes;
+      good = (lawful, f.good);
+      promised = (tt, f.promised);
+      entries_are = ap (λ h. x ∷ h) f.entries_are ∙ sym back.entry;
+      receipts_are = f.receipts_are;
+      number = refl;
+      made = (refl, f.made);
+      count = ap suc f.count;
+      together = inr refl;
+      before = ap (drop (suc n)) back.entry ∙ f.before;
+      pages = f.pages ∙ ap (λ ds. written_pages made ++ pages_of ds) back.first_is ∙ sym (append_assoc (written_pages made) (d.page ∷ []) (pages_of back.rest))
+          ∙ ap (λ ds. (written_pages made ++ d.page ∷ []) ++ pages_of ds) (sym left);
+      others = λ c other. skip (nat_eq 0 c) (k ∷ under_way (f.writes ++ past) c) (under_way (f.writes ++ past) c) other ∙ f.others c other;
+      quiet = λ c. skip_both (nat_eq 0 c) (e ∷ filter (λ y. nat_eq (caller_of y) c && is_answer y) (f.writes ++ past)) (filter (λ y. nat_eq (caller_of y) c && is_answer y) (f.writes ++ past)) ∙ f.quiet c;
+      faults = subst F (sym back.entry) (tt, f.faults);
+      last_fault = ap disk_faults back.entry ∙ f.last_fault;
+      last_log_fault = ap log_faults back.entry ∙ f.last_log_fault;
+      ours = λ was. (omega arith, f.ours was);
+    }
+
+-- so many writes behind a trail
+pub flushed : (o : Opening) (start : Start) (disk log : ℕ) (past : List Event) (n : ℕ) (mid : List Entry) → FrontLeaves
+    → IsGood o past → ArePromised o past → next_number past 0 ≡ 1 → under_way past 0 ≡ [] → AreFaultsWithin start disk log (entries past)
+    → WritesBack o.first runner n (entries past) mid → Flushed o start disk log past n mid
+flushed o start disk log past zero mid front good promised number none faults writes =
+    let P : List Entry → Type 0 = λ h. Flushed o start disk log past 0 h in
+    subst P (sym writes) (flushed_none o start disk log past good promised number none faults)
+flushed o start disk log past (suc n) mid front good promised number none faults (before, writes, back) =
+    flushed_more o start disk log past n before mid front (flushed o start disk log past n before front good promised number none faults writes) back
+
+few_dirtied : (p : PageId) (from to : ℕ) (ds : List Dirty) → length (dirtied p from to ds) ≤ suc (length ds)
+few_dirtied p from to [] = omega arith
+few_dirtied p from to (d ∷ ds) = pick (same_page d.page p) (few_dirtied p from to ds)
+  where
+    pick : (b : Bool) → length (dirtied p from to ds) ≤ suc (length ds) → length (cond b (record d { newest = to } ∷ ds) (d ∷ dirtied p from to ds)) ≤ suc (suc (length ds))
+    pick true le = omega arith
+    pick false le = omega (arith, le)
+
+few_cleaned : (p : PageId) (ds : List Dirty) → length (cleaned p ds) ≤ length ds
+few_cleaned p [] = omega arith
+few_cleaned p (d ∷ ds) = pick (not (same_page d.page p)) (few_cleaned p ds)
+  where
+    pick : (b : Bool) → length (cleaned p ds) ≤ length ds → length (cond b (d ∷ cleaned p ds) (cleaned p ds)) ≤ suc (length ds)
+    pick true le = omega (arith, le)
+    pick false le = omega (arith, le)
+
+few_after : (k : Kind) (ds : List Dirty) → length (dirty_after k ds) ≤ suc (length ds)
+few_after (kind.Load q f) ds = omega arith
+few_after (kind.Fix q f clock now) ds = omega arith
+few_after (kind.Create q f from to now) ds = few_dirtied q from to ds
+few_after (kind.Put q at bytes from to) ds = few_dirtied q from to ds
+few_after (kind.Evict q f passed) ds = omega arith
+few_after (kind.Write q lsn upto) ds = let le = few_cleaned q ds in omega (arith, le)
+few_after (kind.Move q from to) ds = omega arith
+few_after (kind.Withdraw from) ds = omega arith
+few_after (kind.Undo from) ds = omega arith
+few_after (kind.Shrink chunks) ds = omega arith
+few_after (kind.Grow chunks) ds = omega arith
+few_after (kind.Resize bytes chunks) ds = omega arith
+few_after (kind.Clean written skipped) ds = omega arith
+few_after (kind.Check lsn) ds = omega arith
+few_after (kind.WatchSet q) ds = omega arith
+few_after (kind.WatchAt q f) ds = omega arith
+few_after (kind.Occurred q arrived) ds = omega arith
+few_after (kind.Unwatch q) ds = omega arith
+few_after (kind.Dump pct ids) ds = omega arith
+few_after (kind.Refused asked why) ds = omega arith
+
+-- no more pages are dirty than there are entries
+pub few_dirty : (h : List Entry) → length (dirty h) ≤ length h
+few_dirty [] = omega arith
+few_dirty (e ∷ h) = omega (arith, few_after e.kind (dirty h), few_dirty h)
+
+-- each write back takes one
+pub write_backs : (first : ℕ) (by : Caller) (n : ℕ) (old new : List Entry) → FrontLeaves → WritesBack first by n old new → n + length (dirty new) ≡ length (dirty old)
+write_backs first by zero old new front is = let same = ap (λ h. length (dirty h)) is in omega (arith, same)
+write_backs first by (suc n) old new front (mid, writes, back) =
+    let d = back.oldest in
+    let before = write_backs first by n old mid front writes in
+    let x : Entry = entry_behind first mid by (kind.Write d.page d.newest back.upto) in
+    let left : dirty new ≡ back.rest = ap dirty back.entry ∙ front mid x d back.rest d.newest back.upto back.first_is refl in
+    let a : length (dirty new) ≡ length back.rest = ap (length {A = Dirty}) left in
+    let b : length (dirty mid) ≡ suc (length back.rest) = ap (length {A = Dirty}) back.first_is in
+    omega (arith, before, a, b)

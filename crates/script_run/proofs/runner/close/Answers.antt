@@ -1,0 +1,44 @@
+use Rattle.std.proofs.Common.{◌≡◌, ◌≤◌, ◌<◌, ◌+◌, ℕ, List, [], Option, Some, Result, IfOk, inl, inr, ◌⊎◌, length, sym, subst, arith}
+use Rattle.page_disk.specs.declared.shelf.FaultAt.{FaultAt}
+use Rattle.page_ids.specs.declared.faults.OutOfMemory.{OutOfMemory}
+use Rattle.trail.specs.declared.event.Entry.{Entry}
+use Rattle.trail.specs.Dirt.{dirty}
+use Rattle.desk.specs.declared.calls.CleanErr.{CleanErr}
+use Rattle.desk.specs.Changes.{IsCleanRefusal}
+use Rattle.script_run.specs.Runs.{IsClosed}
+use Rattle.script_run.proofs.Flushing.{runner, few_dirty, write_backs}
+use Rattle.script_run.proofs.runner.close.Goals as goal
+use Rattle.script_run.proofs.runner.close.Goals.{in-Ok, in-Err-OutOfMemory, in-Err-RedoFault, in-Err-DiskFault}
+
+-- fewer pages are dirty than a clean may write
+none_left : (written few : ℕ) (old new : List Entry) → written + few ≤ length old → length old < 16384 → (written ≡ 16384) ⊎ (dirty new ≡ []) → dirty new ≡ []
+none_left written few old new le less (inl full) = absurd (omega (arith, le, less, full))
+none_left written few old new le less (inr none) = none
+
+pub returns-clause-closed : goal.returns-clause-closed
+returns-clause-closed g c =
+    let old = c.args.desk.now.state in
+    let new = c.clean_at.new.self.state in
+    let P : Result (Option FaultAt) OutOfMemory → Type 0 = λ r. IfOk r (λ fault. IsClosed old new fault) in
+    let R : CleanErr → Type 0 = λ e. IsCleanRefusal old new runner 16384 (g.D.PageDisk.fault_count old.disk) (g.D.PageDisk.fault_count new.disk) c.args.redo.now.seen.faults c.clean_at.new.redo.seen.faults e in
+    elim c.match-clean_at.branch [
+      | in-Ok w ↦
+          let ok = w.in-Ok.ensures.ok.1 in
+          let n = w.in-Ok.field-0.written in
+          let all = write_backs old.config.first runner n old.history ok.cleaned.mid c.dirty_pages_are_apart.ensures.front ok.cleaned.writes in
+          let few = few_dirty old.history in
+          subst P (sym w.result-is) (record {
+            written = n;
+            cleaned = ok.cleaned;
+            clean = λ fine. none_left n (length (dirty ok.cleaned.mid)) old.history new.history (omega (arith, all, few)) c.requires.few ok.all;
+          })
+      | in-Err-OutOfMemory w ↦ subst P (sym w.result-is) tt
+      | in-Err-RedoFault w ↦
+          let is = subst R w.in-Err-RedoFault.field-0-is w.in-Err-RedoFault.ensures.refused in
+          let C : FaultAt → Type 0 = λ f. IsClosed old new (Some f) in
+          subst P (sym w.result-is) (subst C (sym w.fault_of.ensures) (record { written = is.1.written; cleaned = is.1.cleaned; clean = λ fine. absurd (cc) }))
+      | in-Err-DiskFault w ↦
+          let is = subst R w.in-Err-DiskFault.field-0-is w.in-Err-DiskFault.ensures.refused in
+          let C : FaultAt → Type 0 = λ f. IsClosed old new (Some f) in
+          subst P (sym w.result-is) (subst C (sym w.fault_of-in-Err-DiskFault.ensures) (record { written = is.1.written; cleaned = is.1.cleaned; clean = λ fine. absurd (cc) }))
+    ]

@@ -1,0 +1,79 @@
+-- The pages that were changed since they were last written, and where the log ends, as a history says. The newest entry stands first.
+use Rattle.std.specs.Prelude.{ℕ, Bool, not, List, [], ◌∷◌, Option, None, Some, filter, is_some, if◌then◌else◌}
+use Rattle.page_ids.specs.Same.{same_page}
+use Rattle.page_ids.specs.declared.ids.PageId.{PageId}
+use Rattle.trail.specs.declared.event.Kind.{Kind}
+use Rattle.trail.specs.declared.event.Kind.TheVariants as kind
+use Rattle.trail.specs.declared.event.Entry.{Entry}
+use Rattle.trail.specs.declared.event.Dirty.{Dirty}
+
+-- A change whose record has these LSNs: a page that is dirty already keeps its oldest LSN and its place, another one comes to the end.
+abbrev pub dirtied : PageId → ℕ → ℕ → List Dirty → List Dirty
+dirtied p start end [] = record { page = p; oldest = start; newest = end } ∷ []
+dirtied p start end (d ∷ ds) = if same_page d.page p then record d { newest = end } ∷ ds else d ∷ dirtied p start end ds
+
+-- a page that was written is clean
+abbrev pub cleaned : PageId → List Dirty → List Dirty
+cleaned p ds = filter (λ (d : Dirty). not (same_page d.page p)) ds
+
+abbrev pub dirty_after : Kind → List Dirty → List Dirty
+dirty_after (kind.Load q f) before = before
+dirty_after (kind.Fix q f clock now) before = before
+dirty_after (kind.Create q f start end now) before = dirtied q start end before
+dirty_after (kind.Put q at bytes start end) before = dirtied q start end before
+dirty_after (kind.Evict q f passed) before = before
+dirty_after (kind.Write q lsn upto) before = cleaned q before
+dirty_after (kind.Move q from to) before = before
+dirty_after (kind.Withdraw from) before = before
+dirty_after (kind.Undo from) before = before
+dirty_after (kind.Shrink chunks) before = before
+dirty_after (kind.Grow chunks) before = before
+dirty_after (kind.Resize bytes chunks) before = before
+dirty_after (kind.Clean written skipped) before = before
+dirty_after (kind.Check lsn) before = before
+dirty_after (kind.WatchSet q) before = before
+dirty_after (kind.WatchAt q f) before = before
+dirty_after (kind.Occurred q arrived) before = before
+dirty_after (kind.Unwatch q) before = before
+dirty_after (kind.Dump pct ids) before = before
+dirty_after (kind.Refused asked why) before = before
+
+-- the dirty pages: the one whose first change is the oldest stands first
+abbrev pub dirty : List Entry → List Dirty
+dirty [] = []
+dirty (e ∷ h) = dirty_after e.kind (dirty h)
+
+-- the page among dirty ones
+abbrev pub dirt_of : List Dirty → PageId → Option Dirty
+dirt_of [] p = None
+dirt_of (d ∷ ds) p = if same_page d.page p then Some d else dirt_of ds p
+
+abbrev pub is_dirty : List Entry → PageId → Bool
+is_dirty h p = is_some (dirt_of (dirty h) p)
+
+abbrev pub log_end_after : Kind → ℕ → ℕ
+log_end_after (kind.Load q f) last = last
+log_end_after (kind.Fix q f clock now) last = last
+log_end_after (kind.Create q f start end now) last = end
+log_end_after (kind.Put q at bytes start end) last = end
+log_end_after (kind.Evict q f passed) last = last
+log_end_after (kind.Write q lsn upto) last = last
+log_end_after (kind.Move q from to) last = last
+log_end_after (kind.Withdraw from) last = last
+log_end_after (kind.Undo from) last = last
+log_end_after (kind.Shrink chunks) last = last
+log_end_after (kind.Grow chunks) last = last
+log_end_after (kind.Resize bytes chunks) last = last
+log_end_after (kind.Clean written skipped) last = last
+log_end_after (kind.Check lsn) last = last
+log_end_after (kind.WatchSet q) last = last
+log_end_after (kind.WatchAt q f) last = last
+log_end_after (kind.Occurred q arrived) last = last
+log_end_after (kind.Unwatch q) last = last
+log_end_after (kind.Dump pct ids) last = last
+log_end_after (kind.Refused asked why) last = last
+
+-- the end LSN of the last change, 0 before the first
+abbrev pub log_end : List Entry → ℕ
+log_end [] = 0
+log_end (e ∷ h) = log_end_after e.kind (log_end h)
