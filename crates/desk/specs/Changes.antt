@@ -1,5 +1,5 @@
 -- What a put does, and what a clean does.
-use Rattle.std.specs.Prelude.{ℕ, zero, suc, List, [], ◌∷◌, ◌≡◌, ◌+◌, ◌-◌, ◌<◌, ◌≤◌, ◌^◌, ◌⊎◌, Bool, true, Option, Some, length, slice_get, slice_set}
+use Rattle.std.specs.Prelude.{ℕ, zero, suc, List, [], ◌∷◌, ◌≡◌, ◌+◌, ◌-◌, ◌<◌, ◌≤◌, ◌^◌, ◌⊎◌, Bool, true, Option, Some, length, slice_set}
 use Rattle.page_ids.specs.Content.{Content, patched}
 use Rattle.page_ids.specs.Layout.{IsPage}
 use Rattle.page_ids.specs.declared.ids.PageId.{PageId}
@@ -13,8 +13,10 @@ use Rattle.trail.specs.declared.event.Entry.{Entry}
 use Rattle.trail.specs.Places.{mark}
 use Rattle.trail.specs.History.{home}
 use Rattle.trail.specs.Dirt.{dirty}
+use Rattle.frame_words.specs.Rows.{Row, Uncovers, unlatched_row}
+use Rattle.desk.specs.Ledger.{entry_behind}
 use Rattle.desk.specs.State.{State}
-use Rattle.desk.specs.Steps.{IsAppended, next_entry}
+use Rattle.desk.specs.Steps.{IsAppended, row_in}
 use Rattle.desk.specs.Reads.{RoseWithin}
 use Rattle.desk.specs.declared.calls.Caller.{Caller}
 use Rattle.desk.specs.declared.calls.PutDone.{PutDone}
@@ -31,19 +33,21 @@ pub record IsBody (size at len : ℕ) : Type 0 where
   pub header : 38 ≤ at
   pub trailer : at + len ≤ size - 8
 
--- The record starts at this LSN; the page's image has the bytes and the record's end as its LSN, and the entry was appended. No other image changed, nor the disk.
-pub record IsPutBy {D : Type 0} (old new : State D) (by : Caller) (p : PageId) (at : ℕ) (bytes : List ℕ) (done : PutDone) : Type 0 where
+-- an image was changed in the frame, which was latched for it
+abbrev pub changed_row : Row → Content → ℕ → Row
+changed_row r content clock = unlatched_row (record r { clock = clock; image = Some (Some content) })
+
+-- The record starts at this LSN; the page's image has the bytes and the record's end as its LSN, and the entry was appended. No other frame changed, nor the disk.
+pub record IsPutBy {D : Type 0} (old new : State D) (rows rows' : List Row) (by : Caller) (p : PageId) (at : ℕ) (bytes : List ℕ) (done : PutDone) : Type 0 where
   pub frame : ℕ
   pub content : Content
   pub start : ℕ
   pub resident : home old.history p ≡ Some frame
-  pub image : slice_get old.images frame ≡ Some content
+  pub image : Uncovers (row_in rows frame).image (Some (Some content))
   pub lsn : done.lsn ≡ start + 21 + length bytes
   pub place : done.place ≡ mark old.config.first old.history + 1
-  pub history : new.history ≡ next_entry old by (kind.Put p at bytes start done.lsn) ∷ old.history
-  pub images : new.images ≡ slice_set old.images frame (patched content at bytes done.lsn)
-  pub config : new.config ≡ old.config
-  pub instance : new.instance ≡ old.instance
+  pub entry : IsAppended old new by (kind.Put p at bytes start done.lsn)
+  pub rows_are : rows' ≡ slice_set rows frame (changed_row (row_in rows frame) (patched content at bytes done.lsn) done.place)
   pub disk : new.disk ≡ old.disk
 
 -- the log ended here at the refusal, and the record would end above 2^63; the page is as it was
@@ -57,10 +61,6 @@ pub record IsSpentBy {D : Type 0} (old new : State D) (by : Caller) (p : PageId)
 abbrev pub IsPutRefusal : {D : Type 0} → State D → State D → Caller → PageId → ℕ → List ℕ → ℕ → ℕ → PutErr → Type 0
 IsPutRefusal old new by p at bytes first last unput.OutOfMemory = new ≡ old
 IsPutRefusal old new by p at bytes first last (unput.LogSpent end) = IsSpentBy old new by p at bytes first last end
-
--- the caller's entry at the next place of a history
-abbrev pub entry_behind : ℕ → List Entry → Caller → Kind → Entry
-entry_behind first h by k = record { place = mark first h + 1; caller = by.pass; number = by.number; kind = k }
 
 -- where the disk tells, the page's bytes are those of the image
 pub record IsImageTold {D : Type 0} (tells : D → Bool) (told : D → PageId → Option (List ℕ)) (p : PageId) (content : Content) (old new : D) : Type 0 where
@@ -77,7 +77,6 @@ IsWriteFault disk_was disk_is log_was log_is (unwritten.DiskFault before after) 
 pub record LeavesDesk {D : Type 0} (size : D → ℕ) (tells : D → Bool) (spaces : D → ℕ → Option ℕ) (faults : D → ℕ) (old new : State D) : Type 0 where
   pub config : new.config ≡ old.config
   pub instance : new.instance ≡ old.instance
-  pub images : new.images ≡ old.images
   pub sizes : size new.disk ≡ size old.disk
   pub telling : tells new.disk ≡ tells old.disk
   pub spaces_are : (space : ℕ) → spaces new.disk space ≡ spaces old.disk space
@@ -97,12 +96,11 @@ abbrev pub WritesBack : ℕ → Caller → ℕ → List Entry → List Entry →
 WritesBack first by zero old new = new ≡ old
 WritesBack first by (suc n) old new = (mid : List Entry) × WritesBack first by n old mid × IsWriteBack first by mid new
 
--- so many pages were written, and then the call's answer was appended; images stay
+-- so many pages were written, and then the call's answer was appended
 pub record IsCleanedBy {D : Type 0} (old new : State D) (by : Caller) (written : ℕ) (answer : Kind) : Type 0 where
   pub mid : List Entry
   pub writes : WritesBack old.config.first by written old.history mid
   pub history : new.history ≡ entry_behind old.config.first mid by answer ∷ mid
-  pub images : new.images ≡ old.images
   pub config : new.config ≡ old.config
   pub instance : new.instance ≡ old.instance
 

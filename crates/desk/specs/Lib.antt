@@ -1,7 +1,13 @@
 pub mod State
 pub mod Reads
+pub mod Ledger
+pub mod KeptLists
+pub mod Walk
 pub mod Steps
 pub mod Base
 pub mod Behind
+pub mod Tied
+pub mod Loads
 pub mod Logged
 pub mod Changes
+pub mod Trials

@@ -1,7 +1,5 @@
 -- What a call of the desk appends, and what it leaves.
-use Rattle.std.specs.Prelude.{ℕ, Bool, true, false, List, [], ◌∷◌, ◌≡◌, ◌+◌, ◌<◌, ◌≤◌, ◌⊎◌, Option, None, Some, length, slice_set, slice_get, IfSome, if◌then◌else◌}
-use Rattle.std.specs.Option.{option_and_then}
-use Rattle.page_ids.specs.Chunks.{chunks_of}
+use Rattle.std.specs.Prelude.{ℕ, List, [], ◌∷◌, ◌≡◌, ◌+◌, ◌<◌, ◌≤◌, ◌⊎◌, Option, None, Some, slice_index_or, slice_set, IfSome}
 use Rattle.page_ids.specs.Content.{Content}
 use Rattle.page_ids.specs.Layout.{IsPage}
 use Rattle.page_ids.specs.declared.ids.PageId.{PageId}
@@ -16,7 +14,9 @@ use Rattle.trail.specs.declared.event.Kind.{Kind}
 use Rattle.trail.specs.declared.event.Kind.TheVariants as kind
 use Rattle.trail.specs.Places.{mark}
 use Rattle.trail.specs.History.{home, change}
-use Rattle.trail.specs.Book.{book, next_frame, is_late}
+use Rattle.trail.specs.Book.{book, next_frame}
+use Rattle.frame_words.specs.Rows.{Row, new_row, laid_row, published_row, held_row}
+use Rattle.desk.specs.Ledger.{IsVacant, entry_behind}
 use Rattle.desk.specs.State.{State}
 use Rattle.desk.specs.declared.calls.Caller.{Caller}
 use Rattle.desk.specs.declared.calls.Granted.{Granted}
@@ -24,80 +24,53 @@ use Rattle.desk.specs.declared.calls.FixErr.{FixErr}
 use Rattle.desk.specs.declared.calls.FixErr.TheVariants as refusal
 use Rattle.desk.specs.Reads.{IsFault, IsBadRead}
 
--- the numbers of a pool that starts with one chunk
-pub record IsOneChunk (c : Config) : Type 0 where
-  pub one : chunks_of c ≡ 1
-  pub frames : c.frames ≤ 8192
-
--- whether the entry leaves homes, free frames, clocks and dirty pages
-abbrev pub is_quiet : Kind → Bool
-is_quiet (kind.Load p f) = false
-is_quiet (kind.Fix p f clock now) = true
-is_quiet (kind.Create p f start end now) = false
-is_quiet (kind.Put p at bytes start end) = false
-is_quiet (kind.Evict p f passed) = false
-is_quiet (kind.Write p lsn upto) = false
-is_quiet (kind.Move p from to) = false
-is_quiet (kind.Withdraw from) = false
-is_quiet (kind.Undo from) = false
-is_quiet (kind.Shrink chunks) = false
-is_quiet (kind.Grow chunks) = false
-is_quiet (kind.Resize bytes chunks) = true
-is_quiet (kind.Clean written skipped) = true
-is_quiet (kind.Check lsn) = true
-is_quiet (kind.WatchSet p) = true
-is_quiet (kind.WatchAt p f) = true
-is_quiet (kind.Occurred p arrived) = true
-is_quiet (kind.Unwatch p) = true
-is_quiet (kind.Dump pct ids) = true
-is_quiet (kind.Refused c why) = if is_late c why then false else true
-
 -- the caller's entry at the next place
 abbrev pub next_entry : {D : Type 0} → State D → Caller → Kind → Entry
-next_entry desk by k = record { place = mark desk.config.first desk.history + 1; caller = by.pass; number = by.number; kind = k }
+next_entry desk by k = entry_behind desk.config.first desk.history by k
 
--- one entry was appended; images stay
+-- one entry was appended
 pub record IsAppended {D : Type 0} (old new : State D) (by : Caller) (k : Kind) : Type 0 where
   pub config : new.config ≡ old.config
   pub instance : new.instance ≡ old.instance
   pub history : new.history ≡ next_entry old by k ∷ old.history
-  pub images : new.images ≡ old.images
 
--- the page's bytes were read into the image of the frame
-pub record IsRead {D : Type 0} (told : D → PageId → Option (List ℕ)) (old new : State D) (p : PageId) (f : ℕ) : Type 0 where
-  pub content : Content
-  pub images : new.images ≡ slice_set old.images f content
-  pub read : IfSome (told old.disk p) (λ bytes. IsPage p bytes content)
+-- what is seen of a frame
+abbrev pub row_in : List Row → ℕ → Row
+row_in rows f = slice_index_or rows f new_row
+
+-- a page was read into the frame, and published there at this clock
+abbrev pub loaded_row : Row → PageId → Content → ℕ → Row
+loaded_row r p content clock = published_row (laid_row r content) p clock
 
 -- the page was read from the disk into the next frame
-pub record IsLoaded {D : Type 0} (told : D → PageId → Option (List ℕ)) (old new : State D) (by : Caller) (p : PageId) (f : ℕ) : Type 0 where
+pub record IsLoaded {D : Type 0} (told : D → PageId → Option (List ℕ)) (old new : State D) (rows rows' : List Row) (by : Caller) (p : PageId) (f : ℕ) : Type 0 where
   pub absent : home old.history p ≡ None
-  pub below : f < length old.images
-  pub fresh : (q : PageId) → home old.history q ≡ Some f → ⊥
+  pub below : f < old.config.frames
+  pub fresh : IsVacant old.history f
   pub frame : next_frame (book old.config old.history) ≡ Some f
-  pub config : new.config ≡ old.config
-  pub instance : new.instance ≡ old.instance
-  pub history : new.history ≡ next_entry old by (kind.Load p f) ∷ old.history
+  pub entry : IsAppended old new by (kind.Load p f)
   pub content : Content
-  pub images : new.images ≡ slice_set old.images f content
   pub read : IfSome (told old.disk p) (λ bytes. IsPage p bytes content)
+  pub rows_are : rows' ≡ slice_set rows f (loaded_row (row_in rows f) p content (mark old.config.first old.history + 1))
 
--- a fix of a page that is in the frame was granted, and no device was used
-pub record IsHit {D : Type 0} (old new : State D) (by : Caller) (p : PageId) (now : ℕ) (g : Granted) : Type 0 where
+-- A fix of a page that is in the frame was granted, and no device was used. The frame has one fix more.
+pub record IsHit {D : Type 0} (old new : State D) (rows rows' : List Row) (by : Caller) (p : PageId) (now : ℕ) (g : Granted) : Type 0 where
   pub resident : home old.history p ≡ Some g.frame
   pub clock : g.clock ≡ change old.history g.frame
   pub place : g.place ≡ mark old.config.first old.history + 1
   pub entry : IsAppended old new by (kind.Fix p g.frame g.clock now)
   pub disk : new.disk ≡ old.disk
+  pub rows_are : rows' ≡ slice_set rows g.frame (held_row (row_in rows g.frame))
 
 -- the page was read in before
-pub record IsMiss {D : Type 0} (told : D → PageId → Option (List ℕ)) (old new : State D) (by : Caller) (p : PageId) (now : ℕ) (g : Granted) : Type 0 where
+pub record IsMiss {D : Type 0} (told : D → PageId → Option (List ℕ)) (old new : State D) (rows rows' : List Row) (by : Caller) (p : PageId) (now : ℕ) (g : Granted) : Type 0 where
   pub mid : State D
-  pub loaded : IsLoaded told old mid by p g.frame
-  pub hit : IsHit mid new by p now g
+  pub between : List Row
+  pub loaded : IsLoaded told old mid rows between by p g.frame
+  pub hit : IsHit mid new between rows' by p now g
 
-abbrev pub IsGrantedBy : {D : Type 0} → (D → PageId → Option (List ℕ)) → State D → State D → Caller → PageId → ℕ → Granted → Type 0
-IsGrantedBy told old new by p now g = IsHit old new by p now g ⊎ IsMiss told old new by p now g
+abbrev pub IsGrantedBy : {D : Type 0} → (D → PageId → Option (List ℕ)) → State D → State D → List Row → List Row → Caller → PageId → ℕ → Granted → Type 0
+IsGrantedBy told old new rows rows' by p now g = IsHit old new rows rows' by p now g ⊎ IsMiss told old new rows rows' by p now g
 
 -- the fix was refused with this cause
 abbrev pub IsRefusedFix : {D : Type 0} → State D → State D → Caller → PageId → ℕ → Cause → Type 0
@@ -136,14 +109,9 @@ IsFixRefusal told spaces faults old new by p now (refusal.NoSuchPage pages) = Is
 IsFixRefusal told spaces faults old new by p now (refusal.DiskFault before after) = (p.page < pages_in (spaces old.disk) p.space) × IsFaulted faults old new by p now before after
 IsFixRefusal told spaces faults old new by p now (refusal.BadPage bad) = (p.page < pages_in (spaces old.disk) p.space) × IsUnsound told old new by p now bad
 
--- the image of the page's frame
-abbrev pub home_image : {D : Type 0} → State D → PageId → Option Content
-home_image desk p = option_and_then (λ f. slice_get desk.images f) (home desk.history p)
-
 -- nothing happened yet
 pub record IsFresh {D : Type 0} (desk : State D) (config : Config) (instance : ℕ) (disk : D) : Type 0 where
   pub config_is : desk.config ≡ config
   pub instance_is : desk.instance ≡ instance
   pub history : desk.history ≡ []
-  pub frames : length desk.images ≡ config.frames
   pub disk_is : desk.disk ≡ disk

@@ -1,5 +1,5 @@
 //! Writing a page behind its log.
-ghost use Rattle.std.specs.Prelude.{ℕ, ◌≡◌, ◌≤◌, OnOk, OnErr, IfOk, IfErr, length, vec_len};
+ghost use Rattle.std.specs.Prelude.{ℕ, ◌≡◌, ◌≤◌, OnOk, OnErr, IfOk, IfErr, IsTrue, length, vec_len};
 ghost use Rattle.page_disk.specs.Disks.{IsInside, IsSameDisk, IsOtherwiseSame, Fades};
 ghost use Rattle.redo_mark.specs.Logs.{IsLater, IsKept};
 ghost use Rattle.desk.specs.Reads.{IsFault, RoseWithin};
@@ -105,6 +105,7 @@ pub(crate) fn write_page<D: PageDisk, R: RedoDisk>(
 /// Syncs the disk.
 pub(crate) fn sync_pages<D: PageDisk>(disk: &mut D) -> Result<(), WriteErr>
     ensures same { IsSameDisk D.page_size D.tells D.told D.space_pages D.fault_count disk.old disk.new }
+    ensures synced { OnOk result (IsTrue (D.synced disk.new)) }
     ensures fault { (first last : ℕ) → IfErr result (λ e. IsWriteFault (D.fault_count disk.old) (D.fault_count disk.new) first last e) }
 {
     let before = disk.faults();

@@ -1,10 +1,19 @@
-//! Cleans over a disk and a log in memory.
-ghost use Rattle.std.specs.Prelude.{◌≡◌, ◌<◌, ◌≤◌, ◌+◌, ◌*◌, [], IfOk, length};
+//! Cleans over a disk and a log in memory, with frames of one thread.
+ghost use Rattle.std.specs.Prelude.{◌≡◌, ◌<◌, ◌≤◌, ◌+◌, ◌*◌, [], IfOk, OnOk, IsSome, length};
+ghost use Rattle.page_ids.specs.Size.{page_bytes};
+ghost use Rattle.page_ids.specs.declared.ids.PageId.{PageId};
 ghost use Rattle.trail.specs.Dirt.{log_end};
+ghost use Rattle.trail.specs.History.{home};
+ghost use Rattle.frame_words.specs.Plain.{seen_of};
+ghost use Rattle.desk.specs.Changes.{IsBody};
+ghost use Rattle.desk.specs.Ledger.{IsOneChunk};
+ghost use Rattle.desk.specs.Tied.{AreTied, AreAlone};
+ghost use Rattle.desk.specs.Trials.{AreFew};
 
-use crate::calls::{Caller, CleanErr, Cleaned};
+use crate::calls::{Caller, CleanErr, Cleaned, FixErr, Granted, PutDone, PutErr};
 use crate::desk::Desk;
-use page_disk::DiskMemory;
+use frame_words::PlainFrames;
+use page_disk::{DiskMemory, PageDisk};
 use page_ids::{Config, OutOfMemory, PageId, PageSize};
 use redo_mark::{Redo, RedoMemory};
 use std::alloc::Global;
@@ -26,6 +35,7 @@ const CONFIG: Config = Config {
 
 /// A desk over a disk whose space 0 has 64 pages of zeros; the disk fails at its call with this number.
 fn desk_of(alloc: Global, failing: u64) -> Result<Desk<DiskMemory>, OutOfMemory>
+    ensures start { IfOk result (λ desk. IsOneChunk desk.state.config) }
     ensures first { IfOk result (λ desk. desk.state.config.first ≡ 0) }
     ensures size { IfOk result (λ desk. desk.state.config.page ≡ PageSize.Kib4) }
     ensures history { IfOk result (λ desk. desk.state.history ≡ []) }
@@ -39,6 +49,19 @@ fn desk_of(alloc: Global, failing: u64) -> Result<Desk<DiskMemory>, OutOfMemory>
     }
 }
 
+/// The frames of a desk whose history is empty.
+pub(crate) fn frames_of<D: PageDisk>(
+    desk: &Desk<D>,
+    alloc: Global,
+) -> Result<PlainFrames, OutOfMemory>
+    requires start { IsOneChunk desk.now.state.config }
+    requires fresh { desk.now.state.history ≡ [] }
+    ensures tied { IfOk result (λ frames. AreTied D.tells D.told D.space_pages (seen_of frames) desk.now.state) }
+    ensures few { IfOk result (λ frames. AreFew frames.rows 1) }
+{
+    desk.blank_frames(alloc)
+}
+
 /// An empty log whose first LSN is 8192; its device fails at its call with this number.
 fn log_of(alloc: Global, failing: u64) -> Result<Redo<RedoMemory>, OutOfMemory> {
     let failing = Vec::from_slice(alloc, &[failing])?;
@@ -48,9 +71,60 @@ fn log_of(alloc: Global, failing: u64) -> Result<Redo<RedoMemory>, OutOfMemory> 
     }
 }
 
-/// Fixes a page of space 0 as pass 1, at the moment 1, and puts a byte into it; answers the LSN behind the put's record.
-fn change(
-    desk: &mut Desk<DiskMemory>,
+/// Fixes a page of space 0 as pass 1, at the moment 1.
+pub(crate) fn fix<D: PageDisk>(
+    desk: &mut Desk<D>,
+    frames: &mut PlainFrames,
+    number: u32,
+    page: u32,
+) -> Result<Granted, FixErr>
+    requires first { desk.old.state.config.first ≡ 0 }
+    requires room { length desk.old.state.history < 1000 }
+    requires tied { AreTied D.tells D.told D.space_pages (seen_of frames.old) desk.old.state }
+    requires few { (number < 100) × AreFew frames.old.rows number }
+    ensures config { desk.new.state.config ≡ desk.old.state.config }
+    ensures count { length desk.new.state.history ≤ length desk.old.state.history + 2 }
+    ensures end { log_end desk.new.state.history ≡ log_end desk.old.state.history }
+    ensures resident { OnOk result (IsSome (home desk.new.state.history (record { space = 0; page = page }))) }
+    ensures tied { AreTied D.tells D.told D.space_pages (seen_of frames.new) desk.new.state }
+    ensures few { AreFew frames.new.rows (number + 1) }
+{
+    let page = PageId { space: 0, page };
+    desk.fix_at(frames, Caller { pass: 1, number }, page, 1)
+}
+
+/// Puts bytes into a page of space 0 as pass 1.
+pub(crate) fn put<D: PageDisk>(
+    desk: &mut Desk<D>,
+    frames: &mut PlainFrames,
+    redo: &mut Redo<RedoMemory>,
+    number: u32,
+    page: u32,
+    at: u32,
+    bytes: &[u8],
+) -> Result<PutDone, PutErr>
+    requires first { desk.old.state.config.first ≡ 0 }
+    requires room { length desk.old.state.history < 1000 }
+    requires tied { AreTied D.tells D.told D.space_pages (seen_of frames.old) desk.old.state }
+    requires few { (number < 100) × AreFew frames.old.rows number }
+    requires resident { IsSome (home desk.old.state.history (record { space = 0; page = page })) }
+    requires range { IsBody (page_bytes desk.old.state.config.page) at (length bytes.now) }
+    requires known { log_end desk.old.state.history ≤ redo.old.seen.end }
+    ensures config { desk.new.state.config ≡ desk.old.state.config }
+    ensures count { length desk.new.state.history ≤ length desk.old.state.history + 1 }
+    ensures known { log_end desk.new.state.history ≤ redo.new.seen.end }
+    ensures resident { IsSome (home desk.new.state.history (record { space = 0; page = page })) }
+    ensures tied { AreTied D.tells D.told D.space_pages (seen_of frames.new) desk.new.state }
+    ensures few { AreFew frames.new.rows (number + 1) }
+{
+    let page = PageId { space: 0, page };
+    desk.put_at(frames, redo, Caller { pass: 1, number }, page, at, bytes)
+}
+
+/// Fixes a page of space 0 and puts a byte into it; answers the LSN behind the put's record.
+fn change<D: PageDisk>(
+    desk: &mut Desk<D>,
+    frames: &mut PlainFrames,
     redo: &mut Redo<RedoMemory>,
     number: u32,
     page: u32,
@@ -58,29 +132,32 @@ fn change(
     byte: u8,
 ) -> Option<u64>
     requires first { desk.old.state.config.first ≡ 0 }
+    requires room { length desk.old.state.history < 900 }
+    requires tied { AreTied D.tells D.told D.space_pages (seen_of frames.old) desk.old.state }
+    requires few { (number < 90) × AreFew frames.old.rows number }
     requires size { desk.old.state.config.page ≡ PageSize.Kib4 }
-    requires room { length desk.old.state.history < 1000 }
-    requires number { number < 100 }
     requires range { (38 ≤ at) × (at < 4088) }
     requires known { log_end desk.old.state.history ≤ redo.old.seen.end }
     ensures config { desk.new.state.config ≡ desk.old.state.config }
     ensures count { length desk.new.state.history ≤ length desk.old.state.history + 3 }
     ensures known { log_end desk.new.state.history ≤ redo.new.seen.end }
+    ensures tied { AreTied D.tells D.told D.space_pages (seen_of frames.new) desk.new.state }
+    ensures few { AreFew frames.new.rows (number + 2) }
+    ensures alone { AreAlone (seen_of frames.new) }
 {
-    let page = PageId { space: 0, page };
-    if desk.fix_at(Caller { pass: 1, number }, page, 1).is_err() {
+    if fix(desk, frames, number, page).is_err() {
         return None;
     }
-    let number = number + 1;
-    match desk.put_at(redo, Caller { pass: 1, number }, page, at, &[byte]) {
+    match put(desk, frames, redo, number + 1, page, at, &[byte]) {
         Ok(done) => Some(done.lsn),
         Err(_) => None,
     }
 }
 
 /// Cleans as the runner, and answers how many pages were written.
-fn clean(
-    desk: &mut Desk<DiskMemory>,
+fn clean<D: PageDisk>(
+    desk: &mut Desk<D>,
+    frames: &mut PlainFrames,
     redo: &mut Redo<RedoMemory>,
     number: u32,
     bound: u32,
@@ -88,19 +165,27 @@ fn clean(
 ) -> Result<u32, CleanErr>
     requires first { desk.old.state.config.first ≡ 0 }
     requires room { length desk.old.state.history < 1000 }
+    requires tied { AreTied D.tells D.told D.space_pages (seen_of frames.old) desk.old.state }
+    requires alone { AreAlone (seen_of frames.old) }
     requires known { log_end desk.old.state.history ≤ redo.old.seen.end }
     ensures config { desk.new.state.config ≡ desk.old.state.config }
     ensures count { length desk.new.state.history ≤ 2 * length desk.old.state.history + 1 }
     ensures known { log_end desk.new.state.history ≤ redo.new.seen.end }
+    ensures tied { AreTied D.tells D.told D.space_pages (seen_of frames.new) desk.new.state }
+    ensures alone { AreAlone (seen_of frames.new) }
 {
-    match desk.clean_at(redo, Caller { pass: 0, number }, bound, sync) {
+    match desk.clean_at(frames, redo, Caller { pass: 0, number }, bound, sync) {
         Ok(Cleaned { written, .. }) => Ok(written),
         Err(error) => Err(error),
     }
 }
 
 /// The desk's entries, a line each, without the first ones.
-fn lines(alloc: Global, desk: Desk<DiskMemory>, without: usize) -> Result<String, OutOfMemory> {
+pub(crate) fn lines(
+    alloc: Global,
+    desk: Desk<DiskMemory>,
+    without: usize,
+) -> Result<String, OutOfMemory> {
     let (_, history) = desk.end();
     let mut lines = String::new(alloc);
     for entry in history.iter().skip(without) {
@@ -115,12 +200,31 @@ fn the_oldest_change_is_written_first(rt: HostRuntime) -> Result<(), Fail> {
     let alloc = rt.alloc();
     let mut redo = log_of(alloc, 0)?;
     let mut desk = desk_of(alloc, 0)?;
-    assert_eq!(rt; change(&mut desk, &mut redo, 1, 5, 38, 1), Some(8214));
-    assert_eq!(rt; change(&mut desk, &mut redo, 3, 3, 38, 2), Some(8236));
-    assert_eq!(rt; change(&mut desk, &mut redo, 5, 4, 38, 3), Some(8258));
-    assert_eq!(rt; change(&mut desk, &mut redo, 7, 5, 39, 4), Some(8280));
-    assert_eq!(rt; clean(&mut desk, &mut redo, 1, 2, false), Ok(2));
-    assert_eq!(rt; clean(&mut desk, &mut redo, 2, 16384, true), Ok(1));
+    let mut frames = frames_of(&desk, alloc)?;
+    assert_eq!(rt;
+        change(&mut desk, &mut frames, &mut redo, 1, 5, 38, 1),
+        Some(8214)
+    );
+    assert_eq!(rt;
+        change(&mut desk, &mut frames, &mut redo, 3, 3, 38, 2),
+        Some(8236)
+    );
+    assert_eq!(rt;
+        change(&mut desk, &mut frames, &mut redo, 5, 4, 38, 3),
+        Some(8258)
+    );
+    assert_eq!(rt;
+        change(&mut desk, &mut frames, &mut redo, 7, 5, 39, 4),
+        Some(8280)
+    );
+    assert_eq!(rt;
+        clean(&mut desk, &mut frames, &mut redo, 1, 2, false),
+        Ok(2)
+    );
+    assert_eq!(rt;
+        clean(&mut desk, &mut frames, &mut redo, 2, 16384, true),
+        Ok(1)
+    );
     assert_eq!(rt;
         lines(alloc, desk, 9)?.as_str(),
         "E 10 1.7 fix 0:5 0 3 1
@@ -140,9 +244,16 @@ fn a_page_is_written_behind_its_log(rt: HostRuntime) -> Result<(), Fail> {
     let alloc = rt.alloc();
     let mut redo = log_of(alloc, 0)?;
     let mut desk = desk_of(alloc, 0)?;
-    assert_eq!(rt; change(&mut desk, &mut redo, 1, 0, 4087, 0xab), Some(8214));
+    let mut frames = frames_of(&desk, alloc)?;
+    assert_eq!(rt;
+        change(&mut desk, &mut frames, &mut redo, 1, 0, 4087, 0xab),
+        Some(8214)
+    );
     assert_eq!(rt; redo.durable(), 8192);
-    assert_eq!(rt; clean(&mut desk, &mut redo, 1, 16384, true), Ok(1));
+    assert_eq!(rt;
+        clean(&mut desk, &mut frames, &mut redo, 1, 16384, true),
+        Ok(1)
+    );
     assert_eq!(rt; redo.durable(), 8214);
     assert_eq!(rt;
         lines(alloc, desk, 0)?.as_str(),
@@ -165,10 +276,11 @@ E 5 0.1 clean 1 -
 fn cleaned_twice(alloc: Global, disk: u64, log: u64) -> Result<String, OutOfMemory> {
     let mut redo = log_of(alloc, log)?;
     let mut desk = desk_of(alloc, disk)?;
-    let _ = change(&mut desk, &mut redo, 1, 0, 38, 1);
-    let _ = change(&mut desk, &mut redo, 3, 1, 38, 2);
-    let _ = clean(&mut desk, &mut redo, 1, 2, true);
-    let _ = clean(&mut desk, &mut redo, 2, 16384, true);
+    let mut frames = frames_of(&desk, alloc)?;
+    let _ = change(&mut desk, &mut frames, &mut redo, 1, 0, 38, 1);
+    let _ = change(&mut desk, &mut frames, &mut redo, 3, 1, 38, 2);
+    let _ = clean(&mut desk, &mut frames, &mut redo, 1, 2, true);
+    let _ = clean(&mut desk, &mut frames, &mut redo, 2, 16384, true);
     lines(alloc, desk, 6)
 }
 

@@ -67,7 +67,7 @@ pub(crate) fn drafted(
 }
 
 /// Where the page stands in the list of dirty pages.
-fn dirty_place(dirty: &VecDeque<Dirty>, page: PageId) -> Option<usize>
+pub(crate) fn dirty_place(dirty: &VecDeque<Dirty>, page: PageId) -> Option<usize>
     ensures { result ≡ position (λ (d : Dirty). same_page d.page page) dirty.now.items }
 {
     dirty.iter().position(|d| d.page == page)
@@ -78,6 +78,8 @@ fn dirty_place(dirty: &VecDeque<Dirty>, page: PageId) -> Option<usize>
 pub(crate) fn soil(dirty: &mut VecDeque<Dirty>, page: PageId, span: Span)
     requires room { deque_len dirty.old < deque_capacity dirty.old }
     ensures items { dirty.new.items ≡ dirtied page span.start span.end dirty.old.items }
+    ensures room { deque_capacity dirty.new ≡ deque_capacity dirty.old }
+    ensures len { deque_len dirty.new ≤ deque_len dirty.old + 1 }
 {
     match dirty_place(dirty, page) {
         Some(place) => {
@@ -134,65 +136,12 @@ pub(crate) fn read_page<D: PageDisk>(
 
 /// The frames' numbers, rising.
 pub(crate) fn free_frames(alloc: Global, frames: u32) -> Result<VecDeque<u32>, OutOfMemory>
-    ensures { IfOk result (λ free. free.items ≡ rising 0 frames) }
+    ensures items { IfOk result (λ free. free.items ≡ rising 0 frames) }
+    ensures room { IfOk result (λ free. frames ≤ deque_capacity free) }
 {
-    let mut free = VecDeque::new(alloc);
+    let mut free = VecDeque::with_capacity(alloc, frames as usize)?;
     for frame in 0..frames {
-        free.push_back(frame)?;
+        free.push_back_reserved(frame);
     }
     Ok(free)
-}
-
-/// So many blank images.
-pub(crate) fn blank_images(
-    alloc: Global,
-    size: PageSize,
-    frames: u32,
-) -> Result<Vec<Image>, OutOfMemory>
-    ensures count { IfOk result (λ images. length images.items ≡ frames) }
-    ensures sized { IfOk result (λ images. (f : ℕ) (c : Content) → slice_get images.items f ≡ Some c → length c.bytes ≡ page_bytes size) }
-{
-    let mut images = Vec::new(alloc);
-    for _ in 0..frames {
-        let image = Image::blank(alloc, size)?;
-        images.push(image)?;
-    }
-    Ok(images)
-}
-
-/// The frames' tables of a new desk.
-#[derive(Drop)]
-pub(crate) struct Parts {
-    pub(crate) homes: HashMap<PageId, u32>,
-    pub(crate) free: VecDeque<u32>,
-    pub(crate) images: Vec<Image>,
-    pub(crate) clocks: Vec<u64>,
-    pub(crate) buffer: Vec<u8>,
-}
-
-impl Parts {
-    /// No page is resident, every frame is free, with a blank image and the clock 0.
-    pub(crate) fn new(alloc: Global, config: &Config) -> Result<Parts, OutOfMemory>
-        ensures homes { IfOk result (λ parts. (p : PageId) → get same_page parts.homes p ≡ None) }
-        ensures spare { IfOk result (λ parts. config.now.frames ≤ spare parts.homes) }
-        ensures free { IfOk result (λ parts. parts.free.items ≡ rising 0 config.now.frames) }
-        ensures count { IfOk result (λ parts. length parts.images.items ≡ config.now.frames) }
-        ensures sized { IfOk result (λ parts. (f : ℕ) (c : Content) → slice_get parts.images.items f ≡ Some c → length c.bytes ≡ page_bytes config.now.page) }
-        ensures clocks { IfOk result (λ parts. parts.clocks.items ≡ replicate config.now.frames 0) }
-        ensures buffer { IfOk result (λ parts. vec_len parts.buffer ≡ page_bytes config.now.page) }
-    {
-        let frames = config.frames as usize;
-        let free = free_frames(alloc, config.frames)?;
-        let images = blank_images(alloc, config.page, config.frames)?;
-        let homes = HashMap::with_capacity(alloc, frames)?;
-        let clocks = vec![in alloc; 0; frames]?;
-        let buffer = vec![in alloc; 0; config.page.bytes() as usize]?;
-        Ok(Parts {
-            homes,
-            free,
-            images,
-            clocks,
-            buffer,
-        })
-    }
 }

@@ -1,13 +1,17 @@
-//! A desk over a disk in memory.
-ghost use Rattle.std.specs.Prelude.{◌≡◌, ◌<◌, ◌≤◌, ◌+◌, [], IfOk, OnOk, IsSome, length};
+//! A desk over a disk in memory, with the frames of one thread.
+ghost use Rattle.std.specs.Prelude.{◌≡◌, ◌<◌, ◌≤◌, ◌+◌, [], ℕ, IfOk, OnOk, IsSome, IsTrue, length};
 ghost use Rattle.page_ids.specs.declared.ids.PageId.{PageId};
 ghost use Rattle.trail.specs.Dirt.{log_end};
 ghost use Rattle.trail.specs.History.{home};
+ghost use Rattle.frame_words.specs.Plain.{seen_of, room_of};
+ghost use Rattle.desk.specs.Ledger.{IsOneChunk};
+ghost use Rattle.desk.specs.Tied.{AreTied, AreAlone};
 
 use crate::calls::{Caller, FixErr, Granted, PutDone, PutErr};
 use crate::desk::Desk;
 use crate::parts::soil;
-use page_disk::DiskMemory;
+use frame_words::{Frames, PlainFrames};
+use page_disk::{DiskMemory, PageDisk};
 use page_ids::{BadPage, Config, OutOfMemory, PageId, PageSize};
 use redo_mark::{Redo, RedoMemory, Span};
 use std::alloc::Global;
@@ -48,6 +52,7 @@ fn desk_of(
     requires { page < 64 }
     ensures first { IfOk result (λ desk. desk.state.config.first ≡ 0) }
     ensures size { IfOk result (λ desk. desk.state.config.page ≡ PageSize.Kib4) }
+    ensures start { IfOk result (λ desk. IsOneChunk desk.state.config) }
     ensures history { IfOk result (λ desk. desk.state.history ≡ []) }
 {
     let spaces = Vec::from_slice(alloc, &[(0, 64)])?;
@@ -61,40 +66,39 @@ fn desk_of(
     }
 }
 
+/// Whether no frame has more than 100 fixes.
+fn few_fixes(frames: &PlainFrames) -> bool
+    ensures room { IsTrue result → (f : ℕ) → f < length frames.now.rows → 0 < room_of frames.now f }
+{
+    for frame in 0..frames.frames() {
+        if frames.held(frame) > 100 {
+            return false;
+        }
+    }
+    true
+}
+
 /// Fixes a page of space 0 as pass 1, at the moment 5.
-fn fix(desk: &mut Desk<DiskMemory>, number: u32, page: u32) -> Result<Granted, FixErr>
+fn fix<D: PageDisk>(
+    desk: &mut Desk<D>,
+    frames: &mut PlainFrames,
+    number: u32,
+    page: u32,
+) -> Result<Granted, FixErr>
     requires first { desk.old.state.config.first ≡ 0 }
     requires room { length desk.old.state.history < 100 }
+    requires tied { AreTied D.tells D.told D.space_pages (seen_of frames.old) desk.old.state }
     ensures config { desk.new.state.config ≡ desk.old.state.config }
     ensures count { length desk.new.state.history ≤ length desk.old.state.history + 2 }
     ensures end { log_end desk.new.state.history ≡ log_end desk.old.state.history }
+    ensures tied { AreTied D.tells D.told D.space_pages (seen_of frames.new) desk.new.state }
     ensures resident { OnOk result (IsSome (home desk.new.state.history (record { space = 0; page = page }))) }
 {
+    if !few_fixes(frames) {
+        return Err(FixErr::OutOfMemory);
+    }
     let page = PageId { space: 0, page };
-    desk.fix_at(Caller { pass: 1, number }, page, 5)
-}
-
-/// Puts bytes into page 0:7 as pass 1.
-fn put(
-    desk: &mut Desk<DiskMemory>,
-    redo: &mut Redo<RedoMemory>,
-    number: u32,
-    at: u32,
-    bytes: &[u8],
-) -> Result<PutDone, PutErr>
-    requires first { desk.old.state.config.first ≡ 0 }
-    requires size { desk.old.state.config.page ≡ PageSize.Kib4 }
-    requires room { length desk.old.state.history < 100 }
-    requires resident { IsSome (home desk.old.state.history (record { space = 0; page = 7 })) }
-    requires range { (0 < length bytes.now) × (38 ≤ at) × (at + length bytes.now ≤ 4088) }
-    requires known { log_end desk.old.state.history ≤ redo.old.seen.end }
-    ensures config { desk.new.state.config ≡ desk.old.state.config }
-    ensures count { length desk.new.state.history ≤ length desk.old.state.history + 1 }
-    ensures known { log_end desk.new.state.history ≤ redo.new.seen.end }
-    ensures resident { IsSome (home desk.new.state.history (record { space = 0; page = 7 })) }
-{
-    let page = PageId { space: 0, page: 7 };
-    desk.put_at(redo, Caller { pass: 1, number }, page, at, bytes)
+    desk.fix_at(frames, Caller { pass: 1, number }, page, 5)
 }
 
 /// The desk's entries, a line each.
@@ -108,11 +112,22 @@ fn lines(alloc: Global, desk: Desk<DiskMemory>) -> Result<String, OutOfMemory> {
     Ok(lines)
 }
 
+/// The LSN of the image in a frame.
+fn lsn_in(frames: &PlainFrames, frame: u32) -> Option<u64>
+    requires { frame < length frames.now.rows }
+{
+    match frames.image(frame) {
+        Some(image) => Some(image.lsn()),
+        None => None,
+    }
+}
+
 #[test]
 fn resident_pages_stay_and_frames_run_out(rt: HostRuntime) -> Result<(), Fail> {
     let mut desk = desk_of(rt.alloc(), 7, page_seven(), &[])?;
+    let mut frames = desk.blank_frames(rt.alloc())?;
     assert_eq!(rt;
-        fix(&mut desk, 1, 0),
+        fix(&mut desk, &mut frames, 1, 0),
         Ok(Granted {
             frame: 0,
             clock: 1,
@@ -120,7 +135,7 @@ fn resident_pages_stay_and_frames_run_out(rt: HostRuntime) -> Result<(), Fail> {
         })
     );
     assert_eq!(rt;
-        fix(&mut desk, 2, 0),
+        fix(&mut desk, &mut frames, 2, 0),
         Ok(Granted {
             frame: 0,
             clock: 1,
@@ -128,20 +143,20 @@ fn resident_pages_stay_and_frames_run_out(rt: HostRuntime) -> Result<(), Fail> {
         })
     );
     assert_eq!(rt;
-        fix(&mut desk, 3, 64),
+        fix(&mut desk, &mut frames, 3, 64),
         Err(FixErr::NoSuchPage { pages: 64 })
     );
     assert_eq!(rt;
-        fix(&mut desk, 4, 63),
+        fix(&mut desk, &mut frames, 4, 63),
         Ok(Granted {
             frame: 1,
             clock: 5,
             place: 6
         })
     );
-    assert_eq!(rt; fix(&mut desk, 5, 2), Err(FixErr::OutOfMemory));
+    assert_eq!(rt; fix(&mut desk, &mut frames, 5, 2), Err(FixErr::OutOfMemory));
     assert_eq!(rt;
-        fix(&mut desk, 5, 63),
+        fix(&mut desk, &mut frames, 5, 63),
         Ok(Granted {
             frame: 1,
             clock: 5,
@@ -165,15 +180,16 @@ E 7 1.5 fix 0:63 1 5 5
 #[test]
 fn a_refused_read_turns_the_free_frames(rt: HostRuntime) -> Result<(), Fail> {
     let mut desk = desk_of(rt.alloc(), 9, [1; 4096], &[1])?;
+    let mut frames = desk.blank_frames(rt.alloc())?;
     assert_eq!(rt;
-        fix(&mut desk, 1, 0),
+        fix(&mut desk, &mut frames, 1, 0),
         Err(FixErr::DiskFault {
             before: 0,
             after: 1
         })
     );
     assert_eq!(rt;
-        fix(&mut desk, 2, 0),
+        fix(&mut desk, &mut frames, 2, 0),
         Ok(Granted {
             frame: 1,
             clock: 2,
@@ -181,9 +197,12 @@ fn a_refused_read_turns_the_free_frames(rt: HostRuntime) -> Result<(), Fail> {
         })
     );
     let unsound = BadPage::Number { found: 0x0101_0101 };
-    assert_eq!(rt; fix(&mut desk, 3, 9), Err(FixErr::BadPage(unsound)));
     assert_eq!(rt;
-        fix(&mut desk, 4, 8),
+        fix(&mut desk, &mut frames, 3, 9),
+        Err(FixErr::BadPage(unsound))
+    );
+    assert_eq!(rt;
+        fix(&mut desk, &mut frames, 4, 8),
         Ok(Granted {
             frame: 0,
             clock: 5,
@@ -204,85 +223,39 @@ E 6 1.4 fix 0:8 0 5 5
 }
 
 #[test]
-fn a_granted_page_is_lent(rt: HostRuntime) -> Result<(), Fail> {
+fn a_granted_page_is_in_its_frame(rt: HostRuntime) -> Result<(), Fail> {
     let mut desk = desk_of(rt.alloc(), 7, page_seven(), &[])?;
-    let granted = fix(&mut desk, 1, 7);
-    assert!(rt; granted.is_ok());
-    let page = PageId { space: 0, page: 7 };
-    assert_eq!(rt; desk.image(page).lsn(), 8214);
-    assert_eq!(rt; desk.clock(page), 1);
+    let mut frames = desk.blank_frames(rt.alloc())?;
+    assert_eq!(rt;
+        fix(&mut desk, &mut frames, 1, 7),
+        Ok(Granted {
+            frame: 0,
+            clock: 1,
+            place: 2
+        })
+    );
+    assert_eq!(rt; frames.frames(), 4);
+    assert_eq!(rt; lsn_in(&frames, 0), Some(8214));
+    assert_eq!(rt; frames.held(0), 1);
     assert_eq!(rt; desk.mark(), 2);
     Ok(())
 }
 
 #[test]
-fn a_put_changes_image_clock_and_lsn(rt: HostRuntime) -> Result<(), Fail> {
-    let alloc = rt.alloc();
-    let log = RedoMemory::new(Vec::new(alloc), Vec::new(alloc));
-    let mut redo = Redo::start(alloc, log, 8214)?;
-    let mut desk = desk_of(alloc, 7, page_seven(), &[])?;
-    let granted = fix(&mut desk, 1, 7);
-    assert!(rt; granted.is_ok());
-    let done = put(&mut desk, &mut redo, 2, 38, &[0xab, 0xcd]);
-    assert_eq!(rt;
-        done,
-        Ok(PutDone {
-            lsn: 8237,
-            place: 3
-        })
-    );
-    let done = put(&mut desk, &mut redo, 3, 4087, &[0xef]);
-    assert_eq!(rt;
-        done,
-        Ok(PutDone {
-            lsn: 8259,
-            place: 4
-        })
-    );
-    let page = PageId { space: 0, page: 7 };
-    let mut body = [0; 4];
-    desk.image(page).copy_out(38, &mut body);
-    assert_eq!(rt; body, [0xab, 0xcd, 0, 0]);
-    assert_eq!(rt; desk.image(page).lsn(), 8259);
-    assert_eq!(rt; desk.clock(page), 4);
-    assert_eq!(rt; redo.end(), 8259);
-    assert_eq!(rt;
-        lines(alloc, desk)?.as_str(),
-        "E 1 1.1 load 0:7 0
-E 2 1.1 fix 0:7 0 1 5
-E 3 1.2 put 0:7 38 abcd 8214 8237
-E 4 1.3 put 0:7 4087 ef 8237 8259
-"
-    );
-    Ok(())
-}
-
-#[test]
-fn a_put_behind_the_last_lsn_changes_nothing(rt: HostRuntime) -> Result<(), Fail> {
-    let alloc = rt.alloc();
-    let log = RedoMemory::new(Vec::new(alloc), Vec::new(alloc));
-    let mut redo = Redo::start(alloc, log, 0x7fff_ffff_ffff_ffff)?;
-    let mut desk = desk_of(alloc, 7, page_seven(), &[])?;
-    let granted = fix(&mut desk, 1, 7);
-    assert!(rt; granted.is_ok());
-    let spent = PutErr::LogSpent {
-        end: 0x7fff_ffff_ffff_ffff,
-    };
-    assert_eq!(rt; put(&mut desk, &mut redo, 2, 38, &[0xab]), Err(spent));
-    let page = PageId { space: 0, page: 7 };
-    let mut body = [1; 1];
-    desk.image(page).copy_out(38, &mut body);
-    assert_eq!(rt; body, [0]);
-    assert_eq!(rt; desk.image(page).lsn(), 8214);
-    assert_eq!(rt; desk.clock(page), 1);
-    assert_eq!(rt; redo.end(), 0x7fff_ffff_ffff_ffff);
-    assert_eq!(rt;
-        lines(alloc, desk)?.as_str(),
-        "E 1 1.1 load 0:7 0
-E 2 1.1 fix 0:7 0 1 5
-E 3 1.2 refused put 0:7 38 ab LogSpent 9223372036854775807
-"
-    );
+fn fixes_are_counted_and_given_back(rt: HostRuntime) -> Result<(), Fail> {
+    let mut desk = desk_of(rt.alloc(), 7, page_seven(), &[])?;
+    let mut frames = desk.blank_frames(rt.alloc())?;
+    let first = fix(&mut desk, &mut frames, 1, 7);
+    let second = fix(&mut desk, &mut frames, 2, 7);
+    assert!(rt; first.is_ok() && second.is_ok());
+    assert_eq!(rt; frames.frames(), 4);
+    assert_eq!(rt; frames.held(0), 2);
+    assert_eq!(rt; frames.held(1), 0);
+    frames.unhold(0);
+    let word = frames.leave(0);
+    assert_eq!(rt; word.fixes(), 2);
+    assert_eq!(rt; word.clock(), 1);
+    assert_eq!(rt; frames.held(0), 1);
     Ok(())
 }
 

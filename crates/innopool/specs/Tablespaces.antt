@@ -1,4 +1,4 @@
--- What a tablespace file tells as a disk: its size, its one space, and its count of faults, but no content.
+-- What a tablespace file tells as a disk: its size, its one space, its count of faults, and whether it was synced, but no content.
 use Rattle.std.specs.Prelude.{ℕ, Bool, false, List, Option, None, Some, ◌==◌, if◌then◌else◌}
 use Rattle.page_ids.specs.Size.{page_bytes}
 use Rattle.page_ids.specs.declared.ids.PageId.{PageId}
@@ -18,3 +18,6 @@ spaces_of d space = if d.space == space then Some d.pages else None
 
 abbrev pub faults_of : TablespaceFile → ℕ
 faults_of d = d.faults
+
+abbrev pub synced_of : TablespaceFile → Bool
+synced_of d = d.synced

@@ -1,10 +1,10 @@
 //! The tablespace file as a disk of pages.
-ghost use Rattle.std.specs.Prelude.{◌≡◌, ◌≤◌, ◌*◌, length, IfOk, OnOk, OnErr, IsTrue, Some};
+ghost use Rattle.std.specs.Prelude.{false, ◌≡◌, ◌≤◌, ◌*◌, length, IfOk, OnOk, OnErr, IsTrue, Some};
 ghost use Rattle.page_ids.specs.Faults.{IsCounted};
 ghost use Rattle.page_ids.specs.Layout.{u64_at};
 ghost use Rattle.page_disk.specs.Disks.{IsInside, IsSameDisk, IsOtherwiseSame, Fades};
 ghost use Rattle.page_disk.specs.Calls.{CountsOnce};
-ghost use Rattle.innopool.specs.Tablespaces.{size_of, tells_of, told_of, spaces_of, faults_of};
+ghost use Rattle.innopool.specs.Tablespaces.{size_of, tells_of, told_of, spaces_of, faults_of, synced_of};
 
 use page_disk::{FaultCount, PageDisk};
 use page_ids::{Failed, PageId, PageSize};
@@ -21,6 +21,8 @@ pub struct TablespaceFile {
     size: PageSize,
     pages: u32,
     faults: FaultCount,
+    /// Whether nothing was written since the last sync that was done.
+    synced: bool,
 }
 
 impl TablespaceFile {
@@ -37,6 +39,7 @@ impl TablespaceFile {
             size,
             pages: whole.min(0xffff_ffff) as u32,
             faults: FaultCount::new(),
+            synced: true,
         })
     }
 
@@ -50,7 +53,7 @@ impl TablespaceFile {
 
 impl PageDisk for TablespaceFile {
     ghost use Rattle.std.specs.Prelude.{None};
-    ghost use Rattle.innopool.specs.Tablespaces.{size_of, tells_of, told_of, spaces_of, faults_of};
+    ghost use Rattle.innopool.specs.Tablespaces.{size_of, tells_of, told_of, spaces_of, faults_of, synced_of};
 
     ghost page_size = { size_of };
 
@@ -62,6 +65,8 @@ impl PageDisk for TablespaceFile {
 
     ghost fault_count = { faults_of };
 
+    ghost synced = { synced_of };
+
     ghost silent = { λ d p silent. λ i. None };
 
     /// A file that ends before the page does has failed.
@@ -69,6 +74,7 @@ impl PageDisk for TablespaceFile {
         requires inside { IsInside (spaces_of self.old) page }
         requires size { length out.old ≡ size_of self.old }
         ensures same { IsSameDisk size_of tells_of told_of spaces_of faults_of self.old self.new }
+        ensures unwritten { synced_of self.new ≡ synced_of self.old }
         ensures cause { IsCounted (faults_of self.old) (faults_of self.new) result }
         ensures once { CountsOnce (faults_of self.old) (faults_of self.new) result }
     {
@@ -93,9 +99,11 @@ impl PageDisk for TablespaceFile {
         ensures written { OnOk result (IsTrue (tells_of self.old) → told_of self.new page ≡ Some bytes.now) }
         ensures failed { OnErr result (Fades (told_of self.old page) (told_of self.new page)) }
         ensures others { IsOtherwiseSame size_of tells_of told_of spaces_of faults_of page self.old self.new }
+        ensures unsynced { synced_of self.new ≡ false }
         ensures cause { IsCounted (faults_of self.old) (faults_of self.new) result }
         ensures once { CountsOnce (faults_of self.old) (faults_of self.new) result }
     {
+        self.synced = false;
         match self.file.write_all_at(bytes, self.offset_of(page)) {
             Ok(()) => Ok(()),
             Err(_) => Err(self.faults.fail()),
@@ -104,11 +112,15 @@ impl PageDisk for TablespaceFile {
 
     fn sync(&mut self) -> Result<(), Failed>
         ensures same { IsSameDisk size_of tells_of told_of spaces_of faults_of self.old self.new }
+        ensures synced { OnOk result (IsTrue (synced_of self.new)) }
         ensures cause { IsCounted (faults_of self.old) (faults_of self.new) result }
         ensures once { CountsOnce (faults_of self.old) (faults_of self.new) result }
     {
         match self.file.sync_all() {
-            Ok(()) => Ok(()),
+            Ok(()) => {
+                self.synced = true;
+                Ok(())
+            }
             Err(_) => Err(self.faults.fail()),
         }
     }

@@ -24,6 +24,7 @@ pub record DiskMemory : Type 0 where
   pub spaces : List (ℕ × ℕ)
   pub kept : List (PageId × Kept)
   pub calls : Counts
+  pub synced : Bool
 
 -- how many pages a space has
 abbrev pub pages_of : List (ℕ × ℕ) → ℕ → Option ℕ
@@ -68,6 +69,9 @@ spaces_of d = pages_of d.spaces
 
 abbrev pub faults_of : DiskMemory → ℕ
 faults_of d = d.calls.faults
+
+abbrev pub synced_of : DiskMemory → Bool
+synced_of d = d.synced
 
 -- the bytes of a page of this size: zeros where none are kept
 abbrev pub bytes_in : ℕ → Option Kept → List ℕ

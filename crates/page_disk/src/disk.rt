@@ -28,12 +28,16 @@ pub trait PageDisk: Send + Drop {
     /// How often it failed; stays at 2^64 - 1.
     ghost fault_count: { Self → ℕ };
 
+    /// Whether nothing was written since the last sync that was done.
+    ghost synced: { Self → Bool };
+
     /// Reads the bytes of a page, which lies in its space, into `out`, which is as long as a page.
     fn read(&mut self, page: PageId, out: &mut [u8]) -> Result<(), Failed>
         requires inside { IsInside (space_pages self.old) page }
         requires size { length out.old ≡ page_size self.old }
         ensures bytes { OnOk result (IfSome (told self.old page) (λ bytes. out.new ≡ bytes)) }
         ensures same { IsSameDisk page_size tells told space_pages fault_count self.old self.new }
+        ensures unwritten { synced self.new ≡ synced self.old }
         ensures cause { IsCounted (fault_count self.old) (fault_count self.new) result };
 
     /// Writes the bytes of a page, which lies in its space. They are as long as a page, their LSN (bytes 16 to 23) is `lsn`, and the log is
@@ -54,11 +58,13 @@ pub trait PageDisk: Send + Drop {
         ensures written { OnOk result (IsTrue (tells self.old) → told self.new page ≡ Some bytes.now) }
         ensures failed { OnErr result (Fades (told self.old page) (told self.new page)) }
         ensures others { IsOtherwiseSame page_size tells told space_pages fault_count page self.old self.new }
+        ensures unsynced { synced self.new ≡ false }
         ensures cause { IsCounted (fault_count self.old) (fault_count self.new) result };
 
     /// Returns once all that was written is kept.
     fn sync(&mut self) -> Result<(), Failed>
         ensures same { IsSameDisk page_size tells told space_pages fault_count self.old self.new }
+        ensures synced { OnOk result (IsTrue (synced self.new)) }
         ensures cause { IsCounted (fault_count self.old) (fault_count self.new) result };
 
     /// How many pages the space has; `None` for a space that isn't there.

@@ -1,5 +1,5 @@
 //! A disk in memory.
-ghost use Rattle.std.specs.Prelude.{◌≡◌, ◌≤◌, ◌⊎◌, ◌↔◌, ◌++◌, ◌/◌, if◌then◌else◌, All, length, drop, IfOk, OnOk, OnErr, IfSome, IsTrue, IsErr, Some};
+ghost use Rattle.std.specs.Prelude.{false, ◌≡◌, ◌≤◌, ◌⊎◌, ◌↔◌, ◌++◌, ◌/◌, if◌then◌else◌, All, length, drop, IfOk, OnOk, OnErr, IfSome, IsTrue, IsErr, Some};
 ghost use Rattle.page_ids.specs.Faults.{IsCounted};
 ghost use Rattle.page_ids.specs.Layout.{u64_at};
 ghost use Rattle.page_ids.specs.Size.{page_bytes};
@@ -7,7 +7,7 @@ ghost use Rattle.page_ids.specs.declared.ids.PageId.{PageId};
 ghost use Rattle.page_disk.specs.Disks.{IsInside, IsSameDisk, IsOtherwiseSame, Fades};
 ghost use Rattle.page_disk.specs.Calls.{IsListed, IsCalled, answered, failed, starved, uncalled};
 ghost use Rattle.page_disk.specs.MemoryDisks.{HasSize, IsKept, contents_of, kept_of, pages_of, whole, half_over};
-ghost use Rattle.page_disk.specs.MemoryDisks.{size_of, tells_of, told_of, bytes_of, bytes_in, spaces_of, faults_of};
+ghost use Rattle.page_disk.specs.MemoryDisks.{size_of, tells_of, told_of, bytes_of, bytes_in, spaces_of, faults_of, synced_of};
 
 use crate::calls::begin;
 use crate::disk::PageDisk;
@@ -45,6 +45,8 @@ pub struct DiskMemory {
     spaces: Vec<(u32, u32)>,
     kept: BTreeMap<PageId, Kept>,
     calls: Calls,
+    /// Whether nothing was written since the last sync that was done.
+    synced: bool,
 }
 
 impl Model for DiskMemory {
@@ -58,6 +60,7 @@ impl Model for DiskMemory {
       spaces = d.spaces.items;
       kept = d.kept.entries;
       calls = d.calls;
+      synced = d.synced;
     } };
 
     ghost invariant = { λ d. IsSized (page_bytes d.size) d.kept.entries };
@@ -105,6 +108,7 @@ impl DiskMemory {
         ensures kept { IfOk result (λ disk. (p : PageId) →
             kept_of disk.kept p ≡ kept_of (contents_of told.items) p) }
         ensures calls { IfOk result (λ disk. disk.calls ≡ uncalled failing.items) }
+        ensures synced { IfOk result (λ disk. IsTrue disk.synced) }
     {
         let mut told = told;
         let mut kept = BTreeMap::new(alloc);
@@ -117,6 +121,7 @@ impl DiskMemory {
             spaces,
             kept,
             calls: Calls::new(failing),
+            synced: true,
         })
     }
 
@@ -167,7 +172,7 @@ fn put_len(listed: bool, len: usize) -> usize
 }
 
 impl PageDisk for DiskMemory {
-    ghost use Rattle.page_disk.specs.MemoryDisks.{size_of, tells_of, told_of, spaces_of, faults_of};
+    ghost use Rattle.page_disk.specs.MemoryDisks.{size_of, tells_of, told_of, spaces_of, faults_of, synced_of};
 
     ghost page_size = { size_of };
 
@@ -178,6 +183,8 @@ impl PageDisk for DiskMemory {
     ghost space_pages = { spaces_of };
 
     ghost fault_count = { faults_of };
+
+    ghost synced = { synced_of };
 
     ghost silent = { λ d p silent. absurd Prim.cc };
 
@@ -190,6 +197,7 @@ impl PageDisk for DiskMemory {
         ensures same { IsSameDisk size_of tells_of told_of spaces_of faults_of self.old self.new }
         ensures cause { IsCounted (faults_of self.old) (faults_of self.new) result }
         ensures exact { IsErr result ↔ IsListed self.old.calls }
+        ensures unwritten { synced_of self.new ≡ synced_of self.old }
         ensures given { OnOk result (out.new ≡ bytes_of self.old page) }
         ensures calls { IsCalled self.old.calls self.new.calls result }
         ensures rest { self.new ≡ record self.old { calls = self.new.calls } }
@@ -219,13 +227,15 @@ impl PageDisk for DiskMemory {
         ensures failed { OnErr result (Fades (told_of self.old page) (told_of self.new page)) }
         ensures others { IsOtherwiseSame size_of tells_of told_of spaces_of faults_of page self.old self.new }
         ensures cause { IsCounted (faults_of self.old) (faults_of self.new) result }
+        ensures unsynced { synced_of self.new ≡ false }
         ensures ok { OnOk result ((¬ (IsListed self.old.calls)) × (self.new.calls ≡ answered self.old.calls)
             × IsKept page (whole bytes.now) self.old.kept self.new.kept) }
         ensures err { OnErr result ((IsListed self.old.calls × (self.new.calls ≡ failed self.old.calls)
             × IsKept page (half_over bytes.now (bytes_of self.old page)) self.old.kept self.new.kept)
             ⊎ ((self.new.calls ≡ starved self.old.calls) × (self.new.kept ≡ self.old.kept))) }
-        ensures rest { self.new ≡ record self.old { kept = self.new.kept; calls = self.new.calls } }
+        ensures rest { self.new ≡ record self.old { kept = self.new.kept; calls = self.new.calls; synced = false } }
     {
+        self.synced = false;
         let listed = self.calls.begin();
         let most = put_len(listed, bytes.len());
         if self.put(page, &bytes[..most], listed).is_err() {
@@ -243,11 +253,15 @@ impl PageDisk for DiskMemory {
     fn sync(&mut self) -> Result<(), Failed>
         ensures same { IsSameDisk size_of tells_of told_of spaces_of faults_of self.old self.new }
         ensures cause { IsCounted (faults_of self.old) (faults_of self.new) result }
+        ensures synced { OnOk result (IsTrue (synced_of self.new)) }
+        ensures failed { OnErr result (self.new.synced ≡ self.old.synced) }
         ensures exact { IsErr result ↔ IsListed self.old.calls }
         ensures calls { IsCalled self.old.calls self.new.calls result }
-        ensures rest { self.new ≡ record self.old { calls = self.new.calls } }
+        ensures rest { self.new ≡ record self.old { calls = self.new.calls; synced = self.new.synced } }
     {
-        begin(&mut self.calls)
+        begin(&mut self.calls)?;
+        self.synced = true;
+        Ok(())
     }
 
     fn pages(&self, space: u32) -> Option<u32> {

@@ -4,4 +4,5 @@ pub mod Listed
 pub mod Overwritten
 pub mod Encoded
 pub mod Pages
+pub mod Packed
 pub mod midpoint

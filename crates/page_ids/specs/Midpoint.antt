@@ -12,6 +12,7 @@ pub record Numbers : Type 0 where
   pub time : ℕ
   pub min : ℕ
 
+-- those of a pool's numbers
 abbrev pub numbers_of : Config → Numbers
 numbers_of c = record { pct = c.old_pct; time = c.old_time; min = c.old_min }
 
@@ -27,6 +28,7 @@ pub record Order (K : Type 0) : Type 0 where
   pub listed : List (Listed K)
   pub evicts : ℕ
 
+-- no page, no eviction
 abbrev pub empty_order : {K : Type 0} → Order K
 empty_order = record { listed = []; evicts = 0 }
 
@@ -50,6 +52,7 @@ old_part n o = drop (young_length n (length o.listed)) o.listed
 abbrev pub place_of : {K : Type 0} → (K → K → Bool) → K → List (Listed K) → ℕ
 place_of is key xs = position_or_len (λ x. is x.key key) xs
 
+-- the key has a place in the list
 abbrev pub IsListed : {K : Type 0} → (K → K → Bool) → K → Order K → Type 0
 IsListed is key o = place_of is key o.listed < length o.listed
 
@@ -104,10 +107,11 @@ relocate is old new o =
     let i = place_of is old o.listed in
     record o { listed = option_map_or (λ x. slice_set o.listed i (record { key = new; first = x.first; since = x.since })) (slice_get o.listed i) o.listed }
 
--- the same list under other keys
+-- the same under another key
 abbrev pub rekeyed : {K L : Type 0} → (K → L) → Listed K → Listed L
 rekeyed g x = record { key = g x.key; first = x.first; since = x.since }
 
+-- of a whole list
 abbrev pub under : {K L : Type 0} → (K → L) → Order K → Order L
 under g o = record { listed = map (rekeyed g) o.listed; evicts = o.evicts }
 

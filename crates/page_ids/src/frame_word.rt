@@ -1,6 +1,7 @@
 //! The word of a frame: its fixes, its latch, whether a page is resident in it, and its modify clock.
-ghost use Rattle.std.specs.Prelude.{◌≡◌, Some};
-ghost use Rattle.page_ids.specs.FrameWord.{fixes_of, is_latched, is_resident, clock_of, word_text};
+ghost use Rattle.std.specs.Prelude.{◌≡◌, ◌<◌, ◌^◌, ℕ, Some};
+ghost use Rattle.page_ids.specs.FrameWord.{fixes_of, is_latched, is_resident, clock_of, packed, bit, FitsWord, HasFields, StaysPacked, word_text};
+ghost use Rattle.page_ids.specs.declared.frame_word.Word.{Word};
 
 use std::fmt;
 
@@ -13,6 +14,19 @@ pub struct Word {
 }
 
 impl Word {
+    /// The word of these fields; the fixes are below 2^14 and the clock is below 2^48.
+    pub fn of(fixes: u32, latched: bool, resident: bool, clock: u64) -> Word
+        requires fixes { fixes < 2 ^ 14 }
+        requires clock { clock < 2 ^ 48 }
+        ensures { result.bits ≡ packed fixes (bit latched) (bit resident) clock }
+    {
+        let latch = if latched { 0x4000 } else { 0 };
+        let page = if resident { 0x8000 } else { 0 };
+        Word {
+            bits: u64::from(fixes) + latch + page + clock * 0x1_0000,
+        }
+    }
+
     /// The fixes of the frame, below 16384 (buf0buf's `buf_fix_count`).
     pub fn fixes(self) -> u32
         ensures { result ≡ fixes_of self }
@@ -57,3 +71,14 @@ impl fmt::Display for Word {
         }
     }
 }
+
+/// The word of given fields has these fields, and each word is that of its own.
+pub fn a_word_is_its_fields()
+    ensures fields { (n l r c : ℕ) → FitsWord n l r c → HasFields (record { bits = packed n l r c }) n l r c }
+    ensures whole { (w : Word) → packed (fixes_of w) (bit (is_latched w)) (bit (is_resident w)) (clock_of w) ≡ w.bits }
+{}
+
+/// A step on the word of given fields leaves the word of the new ones.
+pub fn a_step_leaves_a_packed_word()
+    ensures { (n l r c : ℕ) → FitsWord n l r c → StaysPacked n l r c }
+{}

@@ -16,7 +16,7 @@ pub mod writing;
 
 pub use config::Config;
 pub use faults::{Failed, OutOfMemory};
-pub use frame_word::Word;
+pub use frame_word::{Word, a_step_leaves_a_packed_word, a_word_is_its_fields};
 pub use ids::{PageId, PageSize};
 pub use image::Image;
 pub use layout::{BadPage, decode};

@@ -1,7 +1,6 @@
 -- What the worker's calls do: each leaves its events and an answer that is lawful behind the trail so far.
-use Rattle.std.proofs.Common.{◌≡◌, ℕ, Bool, true, false, cond, List, [], ◌∷◌, ◌+◌, ◌-◌, ◌<◌, ◌≤◌, ◌⊎◌, Option, Some, None, length, slice_get, refl, ap, ◌∙◌, sym, subst, nat_le, IsTrue, IsSome, IfSome, MatchOption, IsSomeAnd, arith, inl, inr, Result, Ok, Err, OnOk}
+use Rattle.std.proofs.Common.{◌≡◌, ℕ, Bool, true, false, cond, List, [], ◌∷◌, ◌+◌, ◌-◌, ◌<◌, ◌≤◌, ◌⊎◌, Option, Some, None, length, refl, ap, ◌∙◌, sym, subst, nat_le, IsTrue, IsSome, IfSome, MatchOption, IsSomeAnd, arith, inl, inr, Result, Ok, Err, OnOk}
 use Rattle.std.specs.Prelude.{Contains, slice_range, is_none}
-use Rattle.std.specs.Option.{option_and_then}
 use Rattle.std.proofs.lemmas.Bool.Decides.{nat_tests}
 use Rattle.page_ids.specs.Size.{page_bytes}
 use Rattle.page_ids.specs.Content.{Content}
@@ -35,14 +34,19 @@ use Rattle.trail.specs.Laws.{IsLawful, IsStillKind}
 use Rattle.trail.specs.Promises.{IsPromised, is_excuse, is_own, is_noted}
 use Rattle.desk.specs.declared.calls.Granted.{Granted}
 use Rattle.desk.specs.declared.calls.PutDone.{PutDone}
+use Rattle.frame_words.specs.Plain.{Plain, seen_of}
+use Rattle.frame_words.specs.Rows.{Row}
+use Rattle.frame_words.specs.Seen.{FramesSeen}
+use Rattle.desk.specs.Base.{Opened}
+use Rattle.desk.specs.Behind.{IsValueIn}
 use Rattle.desk.specs.State.{State}
-use Rattle.desk.specs.Steps.{IsAppended, IsHit, IsMiss, IsOutside, IsFaulted, IsUnsound, next_entry, home_image}
+use Rattle.desk.specs.Steps.{IsAppended, IsHit, IsMiss, IsOutside, IsFaulted, IsUnsound, next_entry, row_in}
 use Rattle.desk.specs.Logged.{IsLogged, IsLoggedKind}
 use Rattle.desk.specs.Changes.{IsBody, IsPutBy, IsSpentBy}
 use Rattle.script_text.specs.declared.script.Command.TheVariants as command
-use Rattle.script_run.specs.Openings.{Start, IsKindWithin}
+use Rattle.script_run.specs.Openings.{Start, IsKindWithin, opened_of}
 use Rattle.script_run.specs.Todo.{IsReceiptOf, IsEntryOf, IsRefusal}
-use Rattle.script_run.specs.Work.{Senses, Working, SoFar, StandsBehind, Does, AreFalling, answered, noted, next_receipt}
+use Rattle.script_run.specs.Work.{Senses, Working, SoFar, StandsBehind, IsCopy, Does, AreFalling, answered, noted, next_receipt}
 use Rattle.script_run.proofs.Fixes.{falling_up, newest_held}
 use Rattle.script_run.proofs.Growing.{me, same, on_some, Grew, so_far_answer, so_far_receipt, so_far_load, lawful_entry, lawful_receipt}
 
@@ -86,8 +90,8 @@ quiet sense o start old new log w past pending k so app disk logged within last 
   last_log = last_log;
 }
 
-so_far_hit : {D : Type 0} (sense : Senses D) (o : Opening) (start : Start) (old new : State D) (log : Seen) (w : Working) (past : List Event) (pending : List Kind) (p : PageId) (now : ℕ) (g : Granted)
-    → SoFar sense o start old log w past pending → IsTogether past w.pass → MayPrecede pending (kind.Fix p g.frame g.clock now) → IsHit old new (me w) p now g → p.page < o.pages p.space
+so_far_hit : {D : Type 0} {rows more : List Row} (sense : Senses D) (o : Opening) (start : Start) (old new : State D) (log : Seen) (w : Working) (past : List Event) (pending : List Kind) (p : PageId) (now : ℕ) (g : Granted)
+    → SoFar sense o start old log w past pending → IsTogether past w.pass → MayPrecede pending (kind.Fix p g.frame g.clock now) → IsHit old new rows more (me w) p now g → p.page < o.pages p.space
     → SoFar sense o start new log (answered w (kind.Fix p g.frame g.clock now)) (event.Entry (next_entry old (me w) (kind.Fix p g.frame g.clock now)) ∷ past) []
 so_far_hit sense o start old new log w past pending p now g so together before hit inside =
     let k = kind.Fix p g.frame g.clock now in
@@ -99,8 +103,8 @@ so_far_hit sense o start old new log w past pending p now g so together before h
     (record { resident = ap (λ h. home h p) so.entries_are ∙ hit.resident; unchanged = hit.clock ∙ ap (λ h. change h g.frame) (sym so.entries_are) }) tt tt (inside_due o p inside))
     tt
 
-pub does_hit : {D : Type 0} (sense : Senses D) (o : Opening) (start : Start) (old new : State D) (log : Seen) (w : Working) (past : List Event) (p : PageId) (now : ℕ) (g : Granted)
-    → SoFar sense o start old log w past [] → IsHit old new (me w) p now g → p.page < pages_in (sense.spaces old.disk) p.space
+pub does_hit : {D : Type 0} {rows more : List Row} (sense : Senses D) (o : Opening) (start : Start) (old new : State D) (log : Seen) (w : Working) (past : List Event) (p : PageId) (now : ℕ) (g : Granted)
+    → SoFar sense o start old log w past [] → IsHit old new rows more (me w) p now g → p.page < pages_in (sense.spaces old.disk) p.space
     → Does sense o start new log (answered w (kind.Fix p g.frame g.clock now)) past (command.Fix p now)
 does_hit sense o start old new log w past p now g so hit inside = record {
   answer = event.Entry (next_entry old (me w) (kind.Fix p g.frame g.clock now));
@@ -110,8 +114,8 @@ does_hit sense o start old new log w past p now g so hit inside = record {
   answers = inl (g.frame, g.clock, refl);
 }
 
-pub does_miss : {D : Type 0} (sense : Senses D) (o : Opening) (start : Start) (old new : State D) (log : Seen) (w : Working) (past : List Event) (p : PageId) (now : ℕ) (g : Granted)
-    → SoFar sense o start old log w past [] → (miss : IsMiss sense.told old new (me w) p now g) → same sense old.disk new.disk → p.page < pages_in (sense.spaces old.disk) p.space
+pub does_miss : {D : Type 0} {rows more : List Row} (sense : Senses D) (o : Opening) (start : Start) (old new : State D) (log : Seen) (w : Working) (past : List Event) (p : PageId) (now : ℕ) (g : Granted)
+    → SoFar sense o start old log w past [] → (miss : IsMiss sense.told old new rows more (me w) p now g) → same sense old.disk new.disk → p.page < pages_in (sense.spaces old.disk) p.space
     → OnValue o past p (λ v. IsSome v)
     → Does sense o start new log (answered w (kind.Fix p g.frame g.clock now)) past (command.Fix p now)
 does_miss sense o start old new log w past p now g so miss disk inside sound =
@@ -241,19 +245,20 @@ does_unfix sense o start desk log w past p h so newest =
     let C : Held → Type 0 = λ one. Contains (held_by past w.pass) one in
     does_receipt sense o start desk log w past (command.Unfix p) n so (lawful_receipt sense o start desk log w past n so (subst C (ap make found.1) found.0) (is_held past w.pass p h here)) tt (subst M (sym here) refl)
 
--- what the desk copied is of the page's value
-value_read : (v : Option Content) (images : List Content) (at : ℕ) (bytes : List ℕ) (h : Option ℕ) → ((f : ℕ) → h ≡ Some f → slice_get images f ≡ v)
-    → IsSomeAnd (option_and_then (λ f. slice_get images f) h) (λ c. bytes ≡ slice_range c.bytes at (at + length bytes)) → IsSomeAnd v (λ c. bytes ≡ slice_range c.bytes at (at + length bytes))
-value_read v images at bytes None values read = absurd read
-value_read v images at bytes (Some f) values read =
+-- what was copied of the image is of the page's value
+value_read : (o : Opened) (seen : FramesSeen) (v : Option Content) (image : Option (Option Content)) (at : ℕ) (bytes : List ℕ) → IsValueIn o seen image v → IsCopy image at (length bytes) bytes
+    → IsSomeAnd v (λ c. bytes ≡ slice_range c.bytes at (at + length bytes))
+value_read o seen v None at bytes is read = absurd is
+value_read o seen v (Some None) at bytes is read = absurd read
+value_read o seen v (Some (Some c)) at bytes is read =
     let P : Option Content → Type 0 = λ v. IsSomeAnd v (λ c. bytes ≡ slice_range c.bytes at (at + length bytes)) in
-    subst P (values f refl) read
+    subst P (sym is) read
 
-does_copy : {D : Type 0} (sense : Senses D) (o : Opening) (start : Start) (desk : State D) (log : Seen) (w : Working) (past : List Event) (p : PageId) (at len : ℕ) (held : Held) (bytes : List ℕ) (clock : ℕ)
-    → SoFar sense o start desk log w past [] → StandsBehind sense o start desk → newest_of w.fixed p ≡ Some held → length bytes ≡ len
-    → IsSomeAnd (home_image desk p) (λ c. bytes ≡ slice_range c.bytes at (at + length bytes)) → IsSomeAnd (home desk.history p) (λ f. clock ≡ change desk.history f)
+does_copy : {D : Type 0} (sense : Senses D) (o : Opening) (start : Start) (desk : State D) (frames : Plain) (log : Seen) (w : Working) (past : List Event) (p : PageId) (at len : ℕ) (held : Held) (bytes : List ℕ) (clock : ℕ)
+    → SoFar sense o start desk log w past [] → StandsBehind sense o start desk frames → newest_of w.fixed p ≡ Some held → home desk.history p ≡ Some held.frame → length bytes ≡ len
+    → IsCopy (row_in frames.rows held.frame).image at (length bytes) bytes → clock ≡ change desk.history held.frame
     → Does sense o start desk log (noted desk w (note.Copied p at bytes clock)) past (command.Read p at len)
-does_copy sense o start desk log w past p at len held bytes clock so stands newest long read unchanged =
+does_copy sense o start desk frames log w past p at len held bytes clock so stands newest resident long read unchanged =
     let n = note.Copied p at bytes clock in
     let e : Event = event.Receipt (next_receipt desk w n) in
     let size = page_bytes o.config.page in
@@ -262,23 +267,23 @@ does_copy sense o start desk log w past p at len held bytes clock so stands newe
     (λ _. (list : List ℕ) × (c : ℕ) × (length list ≡ len) × IsReceiptOf (note.Copied p at list c) e) in
     let S : Option Held → Type 0 = λ found. IsSome found in
     let C : List Entry → Type 0 = λ h. IsSomeAnd (home h p) (λ f. clock ≡ change h f) in
+    let H : Option ℕ → Type 0 = λ found. IsSomeAnd found (λ f. clock ≡ change desk.history f) in
     does_receipt sense o start desk log w past (command.Read p at len) n so
     (lawful_receipt sense o start desk log w past n so (record {
       held = subst S (sym here) refl;
       read = on_some o.base _ (λ base. IsSomeAnd (value size base (entries past) p) (λ c. bytes ≡ slice_range c.bytes at (at + length bytes))) (λ base is behind.
           let V : List Entry → Type 0 = λ h. IsSomeAnd (value size base h p) (λ c. bytes ≡ slice_range c.bytes at (at + length bytes)) in
-          subst V (sym so.entries_are) (value_read (value size base desk.history p) desk.images at bytes (home desk.history p) (behind.values p) read)) stands;
-      unchanged = subst C (sym so.entries_are) unchanged;
+          subst V (sym so.entries_are) (value_read (opened_of o start base) (seen_of frames) (value size base desk.history p) (row_in frames.rows held.frame).image at bytes (behind.values p held.frame resident) read)) stands;
+      unchanged = subst C (sym so.entries_are) (subst H (sym resident) unchanged);
     }) (is_held past w.pass p held here)) tt (subst M (sym here) (bytes, clock, long, refl))
 
-pub does_copied : {D : Type 0} (sense : Senses D) (o : Opening) (start : Start) (desk : State D) (log : Seen) (w : Working) (past : List Event) (p : PageId) (at len : ℕ) (found : Option Held) (bytes : List ℕ) (clock : ℕ)
-    → SoFar sense o start desk log w past [] → StandsBehind sense o start desk → newest_of w.fixed p ≡ found → IsSome found → length bytes ≡ len
-    → IsSomeAnd (home_image desk p) (λ c. bytes ≡ slice_range c.bytes at (at + len)) → IsSomeAnd (home desk.history p) (λ f. clock ≡ change desk.history f)
+pub does_copied : {D : Type 0} (sense : Senses D) (o : Opening) (start : Start) (desk : State D) (frames : Plain) (log : Seen) (w : Working) (past : List Event) (p : PageId) (at len : ℕ) (held : Held) (bytes : List ℕ) (clock : ℕ)
+    → SoFar sense o start desk log w past [] → StandsBehind sense o start desk frames → newest_of w.fixed p ≡ Some held → home desk.history p ≡ Some held.frame → length bytes ≡ len
+    → IsCopy (row_in frames.rows held.frame).image at len bytes → clock ≡ change desk.history held.frame
     → Does sense o start desk log (noted desk w (note.Copied p at bytes clock)) past (command.Read p at len)
-does_copied sense o start desk log w past p at len None bytes clock so stands newest some long read unchanged = absurd (cc)
-does_copied sense o start desk log w past p at len (Some held) bytes clock so stands newest some long read unchanged =
-    let R : ℕ → Type 0 = λ n. IsSomeAnd (home_image desk p) (λ c. bytes ≡ slice_range c.bytes at (at + n)) in
-    does_copy sense o start desk log w past p at len held bytes clock so stands newest long (subst R (sym long) read) unchanged
+does_copied sense o start desk frames log w past p at len held bytes clock so stands newest resident long read unchanged =
+    let R : ℕ → Type 0 = λ n. IsCopy (row_in frames.rows held.frame).image at n bytes in
+    does_copy sense o start desk frames log w past p at len held bytes clock so stands newest resident long (subst R (sym long) read) unchanged
 
 -- the receipt of a put on a page that is not held
 pub does_unheld_put : {D : Type 0} (sense : Senses D) (o : Opening) (start : Start) (desk : State D) (log : Seen) (w : Working) (past : List Event) (p : PageId) (at : ℕ) (bytes : List ℕ)
@@ -313,8 +318,8 @@ does_put_entry sense o start old new was is w past p at bytes held k so grew ans
       answers = subst M (sym here) form;
     }
 
-does_put : {D : Type 0} (sense : Senses D) (o : Opening) (start : Start) (old new : State D) (was is : Seen) (w : Working) (past : List Event) (p : PageId) (at : ℕ) (bytes : List ℕ) (held : Held) (done : PutDone)
-    → SoFar sense o start old was w past [] → newest_of w.fixed p ≡ Some held → (by : IsPutBy old new (me w) p at bytes done) → was.end + 21 + length bytes ≤ done.lsn
+does_put : {D : Type 0} {rows more : List Row} (sense : Senses D) (o : Opening) (start : Start) (old new : State D) (was is : Seen) (w : Working) (past : List Event) (p : PageId) (at : ℕ) (bytes : List ℕ) (held : Held) (done : PutDone)
+    → SoFar sense o start old was w past [] → newest_of w.fixed p ≡ Some held → (by : IsPutBy old new rows more (me w) p at bytes done) → was.end + 21 + length bytes ≤ done.lsn
     → log_end old.history ≤ was.end → IsLater was is → (IsLogged was old.history → IsLogged is new.history) → IsBody (page_bytes old.config.page) at (length bytes)
     → Does sense o start new is (answered w (kind.Put p at bytes by.start done.lsn)) past (command.Put p at bytes)
 does_put {D} sense o start old new was is w past p at bytes held done so newest by span known later logged body =
@@ -326,8 +331,8 @@ does_put {D} sense o start old new was is w past p at bytes held done so newest 
     let F : D → Type 0 = λ d. disk_faults old.history ≤ sense.faults d in
     does_put_entry sense o start old new was is w past p at bytes held k so
     (record {
-      config = by.config;
-      history = by.history;
+      config = by.entry.config;
+      history = by.entry.history;
       disk = same_eq sense old.disk new.disk by.disk;
       later = later.faults;
       logged = logged;
@@ -368,8 +373,8 @@ does_spent {D} sense o start old new was is w past p at bytes held end so newest
     (record { own = refl; filed = refl; excused = tt }) (inr (cause.LogSpent end, refl))
 
 -- the same, where some fix is the newest
-pub does_put_held : {D : Type 0} (sense : Senses D) (o : Opening) (start : Start) (old new : State D) (was is : Seen) (w : Working) (past : List Event) (p : PageId) (at : ℕ) (bytes : List ℕ) (found : Option Held) (done : PutDone)
-    → SoFar sense o start old was w past [] → newest_of w.fixed p ≡ found → IsSome found → (by : IsPutBy old new (me w) p at bytes done) → was.end + 21 + length bytes ≤ done.lsn
+pub does_put_held : {D : Type 0} {rows more : List Row} (sense : Senses D) (o : Opening) (start : Start) (old new : State D) (was is : Seen) (w : Working) (past : List Event) (p : PageId) (at : ℕ) (bytes : List ℕ) (found : Option Held) (done : PutDone)
+    → SoFar sense o start old was w past [] → newest_of w.fixed p ≡ found → IsSome found → (by : IsPutBy old new rows more (me w) p at bytes done) → was.end + 21 + length bytes ≤ done.lsn
     → log_end old.history ≤ was.end → IsLater was is → (IsLogged was old.history → IsLogged is new.history) → IsBody (page_bytes old.config.page) at (length bytes)
     → Does sense o start new is (answered w (kind.Put p at bytes by.start done.lsn)) past (command.Put p at bytes)
 does_put_held sense o start old new was is w past p at bytes None done so newest some by span known later logged body = absurd (cc)

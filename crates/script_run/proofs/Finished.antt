@@ -33,7 +33,8 @@ use Rattle.trail.specs.Merging.{merged, AllWithin, IsPlaced}
 use Rattle.desk.specs.State.{State}
 use Rattle.desk.specs.Steps.{IsFresh}
 use Rattle.desk.specs.Logged.{IsLogged}
-use Rattle.desk.specs.Changes.{WritesBack, entry_behind}
+use Rattle.desk.specs.Changes.{WritesBack}
+use Rattle.desk.specs.Ledger.{entry_behind}
 use Rattle.script_text.specs.declared.script.Command.{Command}
 use Rattle.script_run.specs.Todo.{Todo, answers_of}
 use Rattle.script_run.specs.Openings.{Start, opening_of, IsKindWithin, AreFaultsWithin}

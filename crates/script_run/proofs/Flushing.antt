@@ -17,7 +17,8 @@ use Rattle.trail.specs.Legal.{IsTogether, AreWrites, written_pages, pages_of}
 use Rattle.trail.specs.Laws.{IsLawful, IsGood}
 use Rattle.trail.specs.Promises.{ArePromised}
 use Rattle.desk.specs.declared.calls.Caller.{Caller}
-use Rattle.desk.specs.Changes.{IsWriteBack, WritesBack, entry_behind}
+use Rattle.desk.specs.Changes.{IsWriteBack, WritesBack}
+use Rattle.desk.specs.Ledger.{entry_behind}
 use Rattle.script_run.specs.Openings.{Start, AreFaultsWithin}
 use Rattle.script_run.specs.Runs.{AreOurs}
 use Rattle.script_run.proofs.Fixes.{same_self}

@@ -21,6 +21,7 @@ use Rattle.trail.specs.Causes.{IsCausedKind, IsCausedNote}
 use Rattle.trail.specs.Laws.{IsLawful, IsStillKind}
 use Rattle.trail.specs.Promises.{IsPromised}
 use Rattle.desk.specs.declared.calls.Caller.{Caller}
+use Rattle.frame_words.specs.Rows.{Row}
 use Rattle.desk.specs.State.{State}
 use Rattle.desk.specs.Steps.{IsLoaded, next_entry}
 use Rattle.desk.specs.Logged.{IsLogged}
@@ -150,8 +151,8 @@ lawful_receipt sense o start desk log w past n so legal causes = record {
 }
 
 -- a page with a value was read into the next frame
-pub so_far_load : {D : Type 0} (sense : Senses D) (o : Opening) (start : Start) (old mid : State D) (log : Seen) (w : Working) (past : List Event) (p : PageId) (f : ℕ)
-    → SoFar sense o start old log w past [] → IsLoaded sense.told old mid (me w) p f → same sense old.disk mid.disk → OnValue o past p (λ v. IsSome v)
+pub so_far_load : {D : Type 0} {rows more : List Row} (sense : Senses D) (o : Opening) (start : Start) (old mid : State D) (log : Seen) (w : Working) (past : List Event) (p : PageId) (f : ℕ)
+    → SoFar sense o start old log w past [] → IsLoaded sense.told old mid rows more (me w) p f → same sense old.disk mid.disk → OnValue o past p (λ v. IsSome v)
     → SoFar sense o start mid log w (event.Entry (next_entry old (me w) (kind.Load p f)) ∷ past) (kind.Load p f ∷ [])
 so_far_load {D} sense o start old mid log w past p f so loaded disk sound =
     let own : nat_eq w.pass w.pass ≡ true = eq-eqb w.pass w.pass refl in
@@ -169,15 +170,15 @@ so_far_load {D} sense o start old mid log w past p f so loaded disk sound =
     record {
       good = (lawful, so.good);
       promised = (tt, so.promised);
-      entries_are = ap (λ h. next_entry old (me w) (kind.Load p f) ∷ h) so.entries_are ∙ sym loaded.history;
+      entries_are = ap (λ h. next_entry old (me w) (kind.Load p f) ∷ h) so.entries_are ∙ sym loaded.entry.history;
       receipts_are = so.receipts_are;
-      first_is = ap (λ c. c.first) loaded.config ∙ so.first_is;
-      config_is = loaded.config ∙ so.config_is;
+      first_is = ap (λ c. c.first) loaded.entry.config ∙ so.first_is;
+      config_is = loaded.entry.config ∙ so.config_is;
       pages_are = λ s. so.pages_are s ∙ ap (λ n. unwrap_or n 0) (sym (disk.spaces_are s));
-      logged = subst I (sym loaded.history) (tt, so.logged);
-      faults = subst F (sym loaded.history) (tt, faults_up start (sense.faults old.disk) log.faults (sense.faults mid.disk) log.faults old.history disk.later (omega arith) so.faults);
-      last_fault = subst L (sym loaded.history) (omega (arith, so.last_fault, disk.later));
-      last_log_fault = subst G (sym loaded.history) so.last_log_fault;
+      logged = subst I (sym loaded.entry.history) (tt, so.logged);
+      faults = subst F (sym loaded.entry.history) (tt, faults_up start (sense.faults old.disk) log.faults (sense.faults mid.disk) log.faults old.history disk.later (omega arith) so.faults);
+      last_fault = subst L (sym loaded.entry.history) (omega (arith, so.last_fault, disk.later));
+      last_log_fault = subst G (sym loaded.entry.history) so.last_log_fault;
       low_is = omega (arith, so.low_is, disk.later);
       low_log = so.low_log;
       number = ap (λ (b : Bool). cond b w.next (next_number past w.pass)) own;

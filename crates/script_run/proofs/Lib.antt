@@ -1,6 +1,7 @@
 pub mod Fixes
 pub mod Values
 pub mod Growing
+pub mod Framing
 pub mod Doing
 pub mod Along
 pub mod Progress

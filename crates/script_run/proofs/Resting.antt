@@ -24,6 +24,7 @@ use Rattle.trail.specs.Legal.{IsLegalKind}
 use Rattle.trail.specs.Opening.{Opening}
 use Rattle.trail.specs.Places.{entries}
 use Rattle.trail.specs.Saved.{is_written, saved}
+use Rattle.frame_words.specs.Seen.{FramesSeen}
 use Rattle.desk.specs.Base.{Opened}
 use Rattle.desk.specs.Behind.{IsBehind}
 use Rattle.desk.specs.Logged.{IsLogged, IsLoggedKind, IsLoggedCause, put_change}
@@ -177,11 +178,11 @@ valued_page was (Some bytes) None p at = at
 valued_page was (Some bytes) (Some c) p at = at
 
 -- what stands behind a desk is what its disk holds behind the trail
-pub disk_of : {D : Type 0} (tells : D → Bool) (told : D → PageId → Option (List ℕ)) (spaces : D → ℕ → Option ℕ) (o : Opened) (desk : State D) (fault : Option FaultAt)
-    → IsBehind tells told spaces o desk
+pub disk_of : {D : Type 0} (tells : D → Bool) (told : D → PageId → Option (List ℕ)) (spaces : D → ℕ → Option ℕ) (o : Opened) (desk : State D) (frames : FramesSeen) (fault : Option FaultAt)
+    → IsBehind tells told spaces o desk frames
     → (fault ≡ None → (p : PageId) → p.page < o.pages p.space → IfSome (told desk.disk p) (λ bytes. MatchOption (value o.size o.base desk.history p) (o.told p ≡ Some bytes) (λ c. IsPage p bytes c)))
     → IsDiskOf o.size o.base o.pages o.told (told desk.disk) fault desk.history
-disk_of tells told spaces o desk fault behind rests = record {
+disk_of tells told spaces o desk frames fault behind rests = record {
   saved = λ p inside. saved_page (is_written desk.history p) (o.told p) (told desk.disk p) (saved o.size o.base desk.history p) p (behind.written p) (behind.unwritten p);
   whole = λ fine p inside. valued_page (o.told p) (told desk.disk p) (value o.size o.base desk.history p) p (rests fine p inside);
 }

@@ -1,5 +1,5 @@
 -- What a run answers, by its status.
-use Rattle.std.specs.Prelude.{ℕ, Bool, true, false, List, [], ◌∷◌, ◌++◌, ◌≡◌, ◌+◌, ◌<◌, ◌≤◌, ◌^◌, ◌⊎◌, Option, None, Some, IsSome, IsSomeAnd, IfSome, take, ⊤, reverse, unwrap_or}
+use Rattle.std.specs.Prelude.{ℕ, Bool, true, false, List, [], ◌∷◌, ◌++◌, ◌≡◌, ◌+◌, ◌<◌, ◌≤◌, ◌^◌, ◌⊎◌, Option, None, Some, IsSome, IsSomeAnd, IfSome, IsTrue, take, ⊤, reverse, unwrap_or}
 use Rattle.std.specs.List.{list_any}
 use Rattle.page_ids.specs.Content.{Content}
 use Rattle.page_ids.specs.Faults.{Rose}
@@ -315,3 +315,8 @@ RoseSo false disk_was disk_is log_was log_is before after = RoseWithin disk_was 
 pub record IsFlushedWith (disk_was disk_is log_was log_is : ℕ) (f : FaultAt) : Type 0 where
   pub where_is : IsFlushFault f
   pub counts : RoseSo f.log disk_was disk_is log_was log_is f.before f.after
+
+-- each disk was synced since its last write
+abbrev pub AreSynced : {D : Type 0} → (D → Bool) → List D → Type 0
+AreSynced synced [] = ⊤
+AreSynced synced (d ∷ ds) = IsTrue (synced d) × AreSynced synced ds

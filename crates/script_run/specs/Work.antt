@@ -1,6 +1,8 @@
 -- A worker beside its desk: the trail so far is lawful, and both keep what it says.
-use Rattle.std.specs.Prelude.{ℕ, Bool, List, [], ◌∷◌, ◌++◌, ◌≡◌, ◌+◌, ◌*◌, ◌<◌, ◌≤◌, Option, Some, IfSome, length, filter, reverse}
+use Rattle.std.specs.Prelude.{ℕ, Bool, List, [], ◌∷◌, ◌++◌, ◌≡◌, ◌==◌, ◌+◌, ◌*◌, ◌<◌, ◌≤◌, Option, None, Some, IfSome, IsSomeAnd, length, filter, reverse, slice_range, false, if◌then◌else◌}
+use Rattle.page_ids.specs.Content.{Content, IsRange}
 use Rattle.page_ids.specs.declared.ids.PageId.{PageId}
+use Rattle.page_ids.specs.declared.config.Config.{Config}
 use Rattle.page_disk.specs.Disks.{IsSameDisk, pages_in}
 use Rattle.trail.specs.declared.event.Receipt.{Receipt}
 use Rattle.trail.specs.declared.event.Note.{Note}
@@ -16,7 +18,11 @@ use Rattle.trail.specs.Opening.{Opening}
 use Rattle.trail.specs.Laws.{IsGood}
 use Rattle.trail.specs.Promises.{ArePromised}
 use Rattle.redo_mark.specs.Logs.{Seen, IsLater}
+use Rattle.frame_words.specs.Plain.{Plain, seen_of, unheld_at}
+use Rattle.frame_words.specs.Rows.{Row}
 use Rattle.desk.specs.State.{State}
+use Rattle.desk.specs.Steps.{row_in}
+use Rattle.desk.specs.Tied.{AreTied}
 use Rattle.desk.specs.Base.{Opened}
 use Rattle.desk.specs.Behind.{IsBehind}
 use Rattle.desk.specs.Logged.{IsLogged}
@@ -73,9 +79,13 @@ pub record SoFar {D : Type 0} (sense : Senses D) (o : Opening) (start : Start) (
   pub falling : AreFalling worker.next worker.fixed
   pub alone : AreOf worker.pass past
 
+-- what stands on the disk and in the frames behind a desk
+abbrev pub IsBehindIt : {D : Type 0} → Senses D → Opened → State D → Plain → Type 0
+IsBehindIt sense o desk frames = IsBehind sense.tells sense.told sense.spaces o desk (seen_of frames)
+
 -- Where values are told: each image is its page's value, and the disk has what was last written of each page.
-abbrev pub StandsBehind : {D : Type 0} → Senses D → Opening → Start → State D → Type 0
-StandsBehind sense o start desk = IfSome o.base (λ base. IsBehind sense.tells sense.told sense.spaces (opened_of o start base) desk)
+abbrev pub StandsBehind : {D : Type 0} → Senses D → Opening → Start → State D → Plain → Type 0
+StandsBehind sense o start desk frames = IfSome o.base (λ base. IsBehindIt sense (opened_of o start base) desk frames)
 
 -- the worker after an answer by an entry
 abbrev pub answered : Working → Kind → Working
@@ -106,16 +116,54 @@ abbrev pub AreHoused : List Entry → List Held → Type 0
 AreHoused h [] = Unit {0}
 AreHoused h (held ∷ more) = (home h held.page ≡ Some held.frame) × AreHoused h more
 
--- So many commands led from the one desk, log and worker to the other: what the next one's conditions ask.
-pub record Along {D : Type 0} (sense : Senses D) (n : ℕ) (old new : State D) (was is : Seen) (w v : Working) : Type 0 where
+-- each page's home is a frame of the chunk
+abbrev pub AreInChunk : Config → List Entry → Type 0
+AreInChunk config h = (p : PageId) (f : ℕ) → home h p ≡ Some f → f < config.frames
+
+-- how many of the fixes are of the frame
+abbrev pub fixes_in : ℕ → List Held → ℕ
+fixes_in f [] = 0
+fixes_in f (held ∷ more) = if held.frame == f then fixes_in f more + 1 else fixes_in f more
+
+-- the frames have just these fixes
+abbrev pub AreHeld : List Row → List Held → Type 0
+AreHeld rows fixed = (f : ℕ) → f < length rows → (row_in rows f).held ≡ Some (fixes_in f fixed)
+
+-- What the next call of a worker with these fixes needs of desk and frames, and leaves true.
+pub record IsReady {D : Type 0} (sense : Senses D) (desk : State D) (frames : Plain) (fixed : List Held) : Type 0 where
+  pub tied : AreTied sense.tells sense.told sense.spaces (seen_of frames) desk
+  pub homes : AreInChunk desk.config desk.history
+  pub housed : AreHoused desk.history fixed
+  pub held : AreHeld frames.rows fixed
+
+-- the frame is there and not latched, and no frame is visited
+pub record IsAtRest (frames : Plain) (f : ℕ) : Type 0 where
+  pub inside : f < length frames.rows
+  pub unvisited : frames.visit ≡ None
+  pub unlatched : (row_in frames.rows f).latched ≡ false
+
+-- the image is told, and has this range in its body
+abbrev pub HasRange : Option (Option Content) → ℕ → ℕ → Type 0
+HasRange image at len = IsSomeAnd image (λ told. IsSomeAnd told (λ c. IsRange c.bytes at len))
+
+-- the bytes are those of the image, at this range
+abbrev pub IsCopy : Option (Option Content) → ℕ → ℕ → List ℕ → Type 0
+IsCopy image at len bytes = IsSomeAnd image (λ told. IsSomeAnd told (λ c. bytes ≡ slice_range c.bytes at (at + len)))
+
+-- a fix of the frame was given back
+abbrev pub given_at : Plain → ℕ → Plain
+given_at p f = record (unheld_at p f) { visit = None }
+
+-- So many commands led from the one desk, its frames, log and worker to the other: what the next one's conditions ask.
+pub record Along {D : Type 0} (sense : Senses D) (n : ℕ) (old new : State D) (before after : Plain) (was is : Seen) (w v : Working) : Type 0 where
   pub config : new.config ≡ old.config
   pub grown : length new.history ≤ length old.history + 2 * n
   pub pass : v.pass ≡ w.pass
   pub next : v.next ≡ w.next + n
   pub fewer : length v.fixed ≤ length w.fixed + n
-  pub housed : AreHoused old.history w.fixed → AreHoused new.history v.fixed
+  pub ready : IsReady sense old before w.fixed → IsReady sense new after v.fixed
   pub disk : IsSameDisk sense.size sense.tells sense.told sense.spaces sense.faults old.disk new.disk
-  pub behind : (o : Opened) → IsBehind sense.tells sense.told sense.spaces o old → IsBehind sense.tells sense.told sense.spaces o new
+  pub behind : (o : Opened) → IsBehindIt sense o old before → IsBehindIt sense o new after
   pub log : IsLater was is
   pub known : log_end old.history ≤ was.end → log_end new.history ≤ is.end
 

@@ -10,19 +10,19 @@ ghost use Rattle.redo_mark.specs.Logs.{IsLater, IsKept};
 ghost use Rattle.trail.specs.Spelling.{trail_text};
 ghost use Rattle.trail.specs.Dirt.{log_end};
 ghost use Rattle.desk.specs.Base.{Opened};
-ghost use Rattle.desk.specs.Behind.{IsBehind};
 ghost use Rattle.desk.specs.Logged.{IsLogged};
 ghost use Rattle.script_text.specs.Plan.{Plan, commands_of};
 ghost use Rattle.script_text.specs.Within.{IsWithin};
 ghost use Rattle.script_text.specs.Verdict.{IsScript, IsBad};
-ghost use Rattle.script_run.specs.Work.{senses};
-ghost use Rattle.script_run.specs.Runs.{IsFlushFault, IsFlushedWith, IsClosed, IsEndedRun, IsEnded, IsLongLog, HasEnded, IsRunStatus, IsSilent, IsNoScript};
+ghost use Rattle.script_run.specs.Work.{senses, IsReady, IsBehindIt};
+ghost use Rattle.script_run.specs.Runs.{IsFlushFault, IsFlushedWith, IsClosed, IsEndedRun, IsEnded, IsLongLog, HasEnded, IsRunStatus, IsSilent, IsNoScript, AreSynced};
 ghost use Rattle.script_run.specs.Runs.{IsWritten, IsWrittenInPart, AreRun, IsAskedOnce, handed, reports, is_refused, has_refusal};
 
 use crate::ends::{ReadErr, read_all, write_all};
 use crate::outcome::{Outcome, bare};
 use crate::worker::Worker;
 use desk::{Caller, CleanErr, Desk, clean_disk_holds_the_values};
+use frame_words::PlainFrames;
 use page_disk::{FaultAt, PageDisk, Shelf, Sink, Source};
 use page_ids::OutOfMemory;
 use redo_mark::{Redo, RedoDisk, RedoEnd};
@@ -80,9 +80,11 @@ fn has_refusal(events: &[Event]) -> bool
 /// Cleans as caller 0 with a sync; answers the fault, where there was one.
 fn close<D: PageDisk, R: RedoDisk>(
     desk: &mut Desk<D>,
+    frames: &mut PlainFrames,
     redo: &mut Redo<R>,
 ) -> Result<Option<FaultAt>, OutOfMemory>
-    requires places { desk.old.state.config.first + 2 * length desk.old.state.history + 1 < 2 ^ 64 }
+    requires places { desk.old.state.config.first + 2 * length desk.old.state.history + 1 < 2 ^ 48 }
+    requires ready { IsReady (senses D.page_size D.tells D.told D.space_pages D.fault_count) desk.old.state frames.old [] }
     requires few { length desk.old.state.history < 16384 }
     requires known { log_end desk.old.state.history ≤ redo.old.seen.end }
     ensures closed { IfOk result (λ fault. IsClosed desk.old.state desk.new.state fault) }
@@ -94,12 +96,13 @@ fn close<D: PageDisk, R: RedoDisk>(
     ensures opening { redo.new.opening ≡ redo.old.opening }
     ensures counted { D.fault_count desk.old.state.disk ≤ D.fault_count desk.new.state.disk }
     ensures spaces { (space : ℕ) → D.space_pages desk.new.state.disk space ≡ D.space_pages desk.old.state.disk space }
-    ensures behind { (o : Opened) → IsBehind D.tells D.told D.space_pages o desk.old.state
-        → IsBehind D.tells D.told D.space_pages o desk.new.state }
+    ensures behind { (o : Opened) → IsBehindIt (senses D.page_size D.tells D.told D.space_pages D.fault_count) o desk.old.state frames.old
+        → IsBehindIt (senses D.page_size D.tells D.told D.space_pages D.fault_count) o desk.new.state frames.new }
+    ensures synced { IfOk result (λ fault. fault ≡ None → IsTrue (D.synced desk.new.state.disk)) }
 {
     dirty_pages_are_apart();
     let by = Caller { pass: 0, number: 1 };
-    match desk.clean_at(redo, by, ALL, true) {
+    match desk.clean_at(frames, redo, by, ALL, true) {
         Ok(_) => Ok(None),
         Err(CleanErr::OutOfMemory) => Err(OutOfMemory),
         Err(CleanErr::RedoFault { before, after }) => Ok(Some(fault_of(true, before, after))),
@@ -123,6 +126,7 @@ fn run_on<D: PageDisk, R: RedoDisk>(
         (senses D.page_size D.tells D.told D.space_pages D.fault_count) (reports R.told R.fault_count)
         script.now e.fault (e.trail ∷ []) (e.disk ∷ []) (Some e.redo)) }
     ensures fault { IfOk result (λ e. IfSome e.fault (λ f. IsFlushFault f)) }
+    ensures synced { IfOk result (λ e. e.fault ≡ None → IsTrue (D.synced e.disk)) }
 {
     let config = script.config();
     let mut redo = match Redo::start(alloc, log, config.lsn) {
@@ -133,9 +137,10 @@ fn run_on<D: PageDisk, R: RedoDisk>(
         Ok(desk) => desk,
         Err(_) => return Err(OutOfMemory),
     };
+    let mut frames = desk.blank_frames(alloc)?;
     let mut worker = Worker::new(alloc, 1);
-    worker.work(alloc, &mut desk, &mut redo, script.commands())?;
-    let fault = close(&mut desk, &mut redo)?;
+    worker.work(alloc, &mut desk, &mut frames, &mut redo, script.commands())?;
+    let fault = close(&mut desk, &mut frames, &mut redo)?;
     let (disk, history) = desk.end();
     let redo = redo.close();
     let account = worker.into_account();
@@ -268,6 +273,7 @@ fn run_script<K: Sink, H: Shelf>(
     ensures unwritten { (result.status ≡ 3) ⊎ (result.status ≡ 6) ⊎ (result.status ≡ 7) → out.new ≡ out.old }
     ensures asked { H.asked shelf.old ≡ unasked → (log : Bool)
         × (H.asked shelf.new ≡ record { config = Some script.now.config; disks = 1; log = log; strayed = false }) }
+    ensures synced { HasEnded result.status result.fault → result.fault ≡ None → AreSynced H.Disk.synced result.disks.items }
 {
     let config = script.config();
     let Ok(disk) = shelf.disk(config, 0) else {
@@ -321,7 +327,7 @@ fn judge_words(alloc: Global, words: &[String]) -> Result<(), WordsErr>
 ///
 /// The words are those behind the program's name: `run SPACE FILE LOG`. What the statuses say stands at [`Outcome`].
 /// Whatever the words, the script's bytes and the devices' answers: the trail is one lawful history of a plain page map, in which
-/// thread 1 does what its commands say, each call once and in order; the disk holds what the trail says, and the log keeps each change.
+/// thread 1 does what its commands say, each call once and in order; the disk holds what the trail says, synced, and the log keeps each change.
 pub fn run<R, S: Source, K: Sink, H: Shelf>(
     rt: &R,
     alloc: Global,
@@ -355,6 +361,7 @@ pub fn run<R, S: Source, K: Sink, H: Shelf>(
     ensures unwritten { IsSilent result.status → out.new ≡ out.old }
     ensures unasked { (result.status ≡ 4) ⊎ ((result.status ≡ 3) × (result.redo ≡ None)) → shelf.new ≡ shelf.old }
     ensures asked { H.asked shelf.old ≡ unasked → (H.asked shelf.new ≡ unasked) ⊎ IsAskedOnce (S.left script.old) (H.asked shelf.new) }
+    ensures synced { HasEnded result.status result.fault → result.fault ≡ None → AreSynced H.Disk.synced result.disks.items }
 {
     let _rt = rt;
     match judge_words(alloc, words) {

@@ -1,22 +1,22 @@
 //! A thread of a script: its calls, one after the other.
-ghost use Rattle.std.specs.Prelude.{◌≡◌, ◌<◌, ◌≤◌, ◌+◌, ◌*◌, ◌^◌, ℕ, List, [], Some, None, OnOk, IfOk, slice_range, IsSome, IsSomeAnd, IfSome, IfNone, length, slice_get, reverse};
+ghost use Rattle.std.specs.Prelude.{◌≡◌, ◌<◌, ◌≤◌, ◌+◌, ◌*◌, ◌^◌, ℕ, List, [], Some, None, OnOk, IfOk, IsSome, IfSome, IfNone, length, slice_get, reverse};
 ghost use Rattle.std.specs.List.{AllByRecursion};
 ghost use Rattle.page_disk.specs.Disks.{IsSameDisk};
-ghost use Rattle.trail.specs.History.{home, change};
 ghost use Rattle.trail.specs.Calls.{newest_of};
 ghost use Rattle.trail.specs.Opening.{Opening};
 ghost use Rattle.trail.specs.declared.event.Event.{Event};
-ghost use Rattle.desk.specs.Steps.{home_image};
+ghost use Rattle.frame_words.specs.Plain.{held_of};
+ghost use Rattle.desk.specs.Steps.{row_in};
 ghost use Rattle.script_text.specs.Within.{IsInRange};
 ghost use Rattle.redo_mark.specs.Logs.{Seen, IsLater};
 ghost use Rattle.trail.specs.Dirt.{log_end};
 ghost use Rattle.desk.specs.Base.{Opened};
-ghost use Rattle.desk.specs.Behind.{IsBehind};
 ghost use Rattle.script_run.specs.Openings.{Start};
-ghost use Rattle.script_run.specs.Work.{senses, SoFar, StandsBehind, Does, noted_at, Along, AreHoused, Progress, Ending, Worked};
+ghost use Rattle.script_run.specs.Work.{senses, SoFar, StandsBehind, IsBehindIt, Does, noted_at, Along, IsReady, IsAtRest, HasRange, IsCopy, given_at, Progress, Ending, Worked};
 ghost use Rattle.script_run.specs.Workers.{working};
 
 use desk::{Caller, Desk, FixErr, PutErr};
+use frame_words::{Frames, PlainFrames};
 use page_disk::PageDisk;
 use page_ids::{Bytes, OutOfMemory, PageId};
 use redo_mark::{Redo, RedoDisk};
@@ -35,23 +35,38 @@ pub struct Worker {
     account: Vec<Receipt>,
 }
 
-/// Copies bytes of a resident page, and gives the clock of its frame beside them.
-fn copied<D: PageDisk>(
+/// Copies bytes of the image in a frame, and gives the frame's clock beside them.
+fn copied(
     alloc: Global,
-    desk: &Desk<D>,
-    page: PageId,
+    frames: &mut PlainFrames,
+    frame: u32,
     at: u32,
     len: u32,
 ) -> Result<(Bytes, u64), OutOfMemory>
-    requires resident { IsSome (home desk.now.state.history page) }
-    requires range { IsInRange desk.now.state.config.page (Command.Read page at len) }
+    requires rest { IsAtRest frames.old frame }
+    requires range { HasRange (row_in frames.old.rows frame).image at len }
+    ensures frames { frames.new ≡ frames.old }
     ensures long { IfOk result (λ r. length r.0 ≡ len) }
-    ensures bytes { IfOk result (λ r. IsSomeAnd (home_image desk.now.state page) (λ c. r.0 ≡ slice_range c.bytes at (at + len))) }
-    ensures clock { IfOk result (λ r. IsSomeAnd (home desk.now.state.history page) (λ f. r.1 ≡ change desk.now.state.history f)) }
+    ensures bytes { IfOk result (λ r. IsCopy (row_in frames.old.rows frame).image at len r.0) }
+    ensures clock { IfOk result (λ r. r.1 ≡ (row_in frames.old.rows frame).clock) }
 {
     let mut bytes = vec![in alloc; 0; len as usize]?;
-    desk.image(page).copy_out(at, bytes.as_mut_slice());
-    Ok((Bytes::of(bytes), desk.clock(page)))
+    let Some(image) = frames.image(frame) else {
+        unreachable!()
+    };
+    image.copy_out(at, bytes.as_mut_slice());
+    let clock = frames.look(frame).clock();
+    Ok((Bytes::of(bytes), clock))
+}
+
+/// Gives a fix of a frame back.
+fn let_go(frames: &mut PlainFrames, frame: u32)
+    requires rest { IsAtRest frames.old frame }
+    requires held { 0 < held_of (row_in frames.old.rows frame) }
+    ensures { frames.new ≡ given_at frames.old frame }
+{
+    frames.unhold(frame);
+    let _found = frames.leave(frame);
 }
 
 impl Worker {
@@ -84,16 +99,19 @@ impl Worker {
     fn fix<D: PageDisk>(
         &mut self,
         desk: &mut Desk<D>,
+        frames: &mut PlainFrames,
         page: PageId,
         now: u64,
     ) -> Result<(), OutOfMemory>
-        requires places { desk.old.state.config.first + length desk.old.state.history + 2 < 2 ^ 64 }
+        requires places { desk.old.state.config.first + length desk.old.state.history + 2 < 2 ^ 48 }
         requires number { self.old.next + 1 < 2 ^ 32 }
+        requires few { length self.old.fixed.items + 1 < 2 ^ 14 }
+        requires ready { IsReady (senses D.page_size D.tells D.told D.space_pages D.fault_count) desk.old.state frames.old (reverse self.old.fixed.items) }
         ensures along { OnOk result ((log : Seen) → Along (senses D.page_size D.tells D.told D.space_pages D.fault_count) 1
-            desk.old.state desk.new.state log log (working self.old) (working self.new)) }
+            desk.old.state desk.new.state frames.old frames.new log log (working self.old) (working self.new)) }
         ensures done { OnOk result ((o : Opening) (start : Start) (log : Seen) (past : List Event)
             → SoFar (senses D.page_size D.tells D.told D.space_pages D.fault_count) o start desk.old.state log (working self.old) past []
-            → StandsBehind (senses D.page_size D.tells D.told D.space_pages D.fault_count) o start desk.old.state
+            → StandsBehind (senses D.page_size D.tells D.told D.space_pages D.fault_count) o start desk.old.state frames.old
             → Does (senses D.page_size D.tells D.told D.space_pages D.fault_count) o start desk.new.state log (working self.new) past (Command.Fix page now)) }
     {
         self.fixed.reserve(1)?;
@@ -102,7 +120,7 @@ impl Worker {
             pass: self.pass,
             number,
         };
-        match desk.fix_at(by, page, now) {
+        match desk.fix_at(frames, by, page, now) {
             Ok(granted) => {
                 self.next = number + 1;
                 self.fixed.push_reserved(Held {
@@ -189,28 +207,30 @@ impl Worker {
         &mut self,
         alloc: Global,
         desk: &Desk<D>,
+        frames: &mut PlainFrames,
         page: PageId,
         at: u32,
         len: u32,
     ) -> Result<(), OutOfMemory>
         requires places { desk.now.state.config.first + length desk.now.state.history < 2 ^ 64 }
         requires number { self.old.next + 1 < 2 ^ 32 }
-        requires housed { AreHoused desk.now.state.history (reverse self.old.fixed.items) }
+        requires ready { IsReady (senses D.page_size D.tells D.told D.space_pages D.fault_count) desk.now.state frames.old (reverse self.old.fixed.items) }
         requires range { IsInRange desk.now.state.config.page (Command.Read page at len) }
         ensures along { OnOk result ((log : Seen) → Along (senses D.page_size D.tells D.told D.space_pages D.fault_count) 1
-            desk.now.state desk.now.state log log (working self.old) (working self.new)) }
+            desk.now.state desk.now.state frames.old frames.new log log (working self.old) (working self.new)) }
         ensures done { OnOk result ((o : Opening) (start : Start) (log : Seen) (past : List Event)
             → SoFar (senses D.page_size D.tells D.told D.space_pages D.fault_count) o start desk.now.state log (working self.old) past []
-            → StandsBehind (senses D.page_size D.tells D.told D.space_pages D.fault_count) o start desk.now.state
+            → StandsBehind (senses D.page_size D.tells D.told D.space_pages D.fault_count) o start desk.now.state frames.old
             → Does (senses D.page_size D.tells D.told D.space_pages D.fault_count) o start desk.now.state log (working self.new) past (Command.Read page at len)) }
     {
         let place = desk.mark();
-        if self.newest(page).is_none() {
+        let Some(newest) = self.newest(page) else {
             let call = Call::Read { page, at, len };
             let cause = Cause::Unheld;
             return self.note(place, Note::Refused { call, cause });
-        }
-        let Ok((bytes, clock)) = copied(alloc, desk, page, at, len) else {
+        };
+        let held = self.fixed[newest];
+        let Ok((bytes, clock)) = copied(alloc, frames, held.frame, at, len) else {
             return Err(OutOfMemory);
         };
         self.note(
@@ -225,14 +245,20 @@ impl Worker {
     }
 
     /// Gives back the newest fix of a page.
-    fn unfix<D: PageDisk>(&mut self, desk: &Desk<D>, page: PageId) -> Result<(), OutOfMemory>
+    fn unfix<D: PageDisk>(
+        &mut self,
+        desk: &Desk<D>,
+        frames: &mut PlainFrames,
+        page: PageId,
+    ) -> Result<(), OutOfMemory>
         requires places { desk.now.state.config.first + length desk.now.state.history < 2 ^ 64 }
         requires number { self.old.next + 1 < 2 ^ 32 }
+        requires ready { IsReady (senses D.page_size D.tells D.told D.space_pages D.fault_count) desk.now.state frames.old (reverse self.old.fixed.items) }
         ensures along { OnOk result ((log : Seen) → Along (senses D.page_size D.tells D.told D.space_pages D.fault_count) 1
-            desk.now.state desk.now.state log log (working self.old) (working self.new)) }
+            desk.now.state desk.now.state frames.old frames.new log log (working self.old) (working self.new)) }
         ensures done { OnOk result ((o : Opening) (start : Start) (log : Seen) (past : List Event)
             → SoFar (senses D.page_size D.tells D.told D.space_pages D.fault_count) o start desk.now.state log (working self.old) past []
-            → StandsBehind (senses D.page_size D.tells D.told D.space_pages D.fault_count) o start desk.now.state
+            → StandsBehind (senses D.page_size D.tells D.told D.space_pages D.fault_count) o start desk.now.state frames.old
             → Does (senses D.page_size D.tells D.told D.space_pages D.fault_count) o start desk.now.state log (working self.new) past (Command.Unfix page)) }
     {
         let place = desk.mark();
@@ -250,6 +276,7 @@ impl Worker {
         {
             return Err(OutOfMemory);
         }
+        let_go(frames, held.frame);
         let _held = self.fixed.remove(at);
         Ok(())
     }
@@ -258,18 +285,19 @@ impl Worker {
     fn put<D: PageDisk, R: RedoDisk>(
         &mut self,
         desk: &mut Desk<D>,
+        frames: &mut PlainFrames,
         redo: &mut Redo<R>,
         page: PageId,
         at: u32,
         bytes: &[u8],
     ) -> Result<(), OutOfMemory>
-        requires places { desk.old.state.config.first + length desk.old.state.history + 1 < 2 ^ 64 }
+        requires places { desk.old.state.config.first + length desk.old.state.history + 1 < 2 ^ 48 }
         requires number { self.old.next + 1 < 2 ^ 32 }
-        requires housed { AreHoused desk.old.state.history (reverse self.old.fixed.items) }
+        requires ready { IsReady (senses D.page_size D.tells D.told D.space_pages D.fault_count) desk.old.state frames.old (reverse self.old.fixed.items) }
         requires range { IsInRange desk.old.state.config.page (Command.Put page at bytes.now) }
         requires known { log_end desk.old.state.history ≤ redo.old.seen.end }
         ensures along { OnOk result (Along (senses D.page_size D.tells D.told D.space_pages D.fault_count) 1
-            desk.old.state desk.new.state redo.old.seen redo.new.seen (working self.old) (working self.new)) }
+            desk.old.state desk.new.state frames.old frames.new redo.old.seen redo.new.seen (working self.old) (working self.new)) }
         ensures done { OnOk result ((o : Opening) (start : Start) (past : List Event)
             → SoFar (senses D.page_size D.tells D.told D.space_pages D.fault_count) o start desk.old.state redo.old.seen (working self.old) past []
             → Does (senses D.page_size D.tells D.told D.space_pages D.fault_count) o start desk.new.state redo.new.seen (working self.new) past
@@ -284,7 +312,7 @@ impl Worker {
             pass: self.pass,
             number,
         };
-        match desk.put_at(redo, by, page, at, bytes) {
+        match desk.put_at(frames, redo, by, page, at, bytes) {
             Ok(_) => {
                 self.next = number + 1;
                 Ok(())
@@ -302,27 +330,36 @@ impl Worker {
         &mut self,
         alloc: Global,
         desk: &mut Desk<D>,
+        frames: &mut PlainFrames,
         redo: &mut Redo<R>,
         command: &Command,
     ) -> Result<(), OutOfMemory>
-        requires places { desk.old.state.config.first + length desk.old.state.history + 2 < 2 ^ 64 }
+        requires places { desk.old.state.config.first + length desk.old.state.history + 2 < 2 ^ 48 }
         requires number { self.old.next + 1 < 2 ^ 32 }
-        requires housed { AreHoused desk.old.state.history (reverse self.old.fixed.items) }
+        requires few { length self.old.fixed.items + 1 < 2 ^ 14 }
+        requires ready { IsReady (senses D.page_size D.tells D.told D.space_pages D.fault_count) desk.old.state frames.old (reverse self.old.fixed.items) }
         requires range { IsInRange desk.old.state.config.page command.now }
         requires known { log_end desk.old.state.history ≤ redo.old.seen.end }
         ensures along { OnOk result (Along (senses D.page_size D.tells D.told D.space_pages D.fault_count) 1
-            desk.old.state desk.new.state redo.old.seen redo.new.seen (working self.old) (working self.new)) }
+            desk.old.state desk.new.state frames.old frames.new redo.old.seen redo.new.seen (working self.old) (working self.new)) }
         ensures done { OnOk result ((o : Opening) (start : Start) (past : List Event)
             → SoFar (senses D.page_size D.tells D.told D.space_pages D.fault_count) o start desk.old.state redo.old.seen (working self.old) past []
-            → StandsBehind (senses D.page_size D.tells D.told D.space_pages D.fault_count) o start desk.old.state
+            → StandsBehind (senses D.page_size D.tells D.told D.space_pages D.fault_count) o start desk.old.state frames.old
             → Does (senses D.page_size D.tells D.told D.space_pages D.fault_count) o start desk.new.state redo.new.seen (working self.new) past command.now) }
         ensures opening { redo.new.opening ≡ redo.old.opening }
     {
         match command {
-            Command::Fix { page, now } => self.fix(desk, *page, *now),
-            Command::Read { page, at, len } => self.read(alloc, desk, *page, *at, *len),
-            Command::Put { page, at, bytes } => self.put(desk, redo, *page, *at, bytes.as_slice()),
-            Command::Unfix { page } => self.unfix(desk, *page),
+            Command::Fix { page, now } => self.fix(desk, frames, *page, *now),
+            Command::Read { page, at, len } => self.read(alloc, desk, frames, *page, *at, *len),
+            Command::Put { page, at, bytes } => self.put(
+                desk,
+                frames,
+                redo,
+                *page,
+                *at,
+                bytes.as_slice(),
+            ),
+            Command::Unfix { page } => self.unfix(desk, frames, *page),
         }
     }
 
@@ -331,33 +368,43 @@ impl Worker {
         &mut self,
         alloc: Global,
         desk: &mut Desk<D>,
+        frames: &mut PlainFrames,
         redo: &mut Redo<R>,
         commands: &[Command],
     ) -> Result<(), OutOfMemory>
-        requires places { desk.old.state.config.first + length desk.old.state.history + 2 * length commands.now + 2 < 2 ^ 64 }
+        requires places { desk.old.state.config.first + length desk.old.state.history + 2 * length commands.now + 2 < 2 ^ 48 }
         requires number { self.old.next + length commands.now < 2 ^ 32 }
-        requires housed { AreHoused desk.old.state.history (reverse self.old.fixed.items) }
+        requires few { length self.old.fixed.items + length commands.now < 2 ^ 14 }
+        requires ready { IsReady (senses D.page_size D.tells D.told D.space_pages D.fault_count) desk.old.state frames.old (reverse self.old.fixed.items) }
         requires ranges { AllByRecursion (IsInRange desk.old.state.config.page) commands.now }
         requires known { log_end desk.old.state.history ≤ redo.old.seen.end }
         ensures along { OnOk result (Along (senses D.page_size D.tells D.told D.space_pages D.fault_count) (length commands.now)
-            desk.old.state desk.new.state redo.old.seen redo.new.seen (working self.old) (working self.new)) }
+            desk.old.state desk.new.state frames.old frames.new redo.old.seen redo.new.seen (working self.old) (working self.new)) }
         ensures done { OnOk result ((o : Opening) (start : Start) (past : List Event)
             → SoFar (senses D.page_size D.tells D.told D.space_pages D.fault_count) o start desk.old.state redo.old.seen (working self.old) past []
-            → StandsBehind (senses D.page_size D.tells D.told D.space_pages D.fault_count) o start desk.old.state
+            → StandsBehind (senses D.page_size D.tells D.told D.space_pages D.fault_count) o start desk.old.state frames.old
             → Progress (senses D.page_size D.tells D.told D.space_pages D.fault_count) o start desk.new.state redo.new.seen (working self.new) past commands.now []) }
         ensures opening { redo.new.opening ≡ redo.old.opening }
     {
         for command in commands {
-            self.step(alloc, desk, redo, command)?;
+            self.step(alloc, desk, frames, redo, command)?;
         }
         Ok(())
     }
 
     /// Gives back the newest of its fixes.
-    fn give_back<D: PageDisk>(&mut self, desk: &Desk<D>) -> Result<(), OutOfMemory>
+    fn give_back<D: PageDisk>(
+        &mut self,
+        desk: &Desk<D>,
+        frames: &mut PlainFrames,
+    ) -> Result<(), OutOfMemory>
         requires places { desk.now.state.config.first + length desk.now.state.history < 2 ^ 64 }
         requires number { self.old.next + 1 < 2 ^ 32 }
         requires some { 0 < length self.old.fixed.items }
+        requires ready { IsReady (senses D.page_size D.tells D.told D.space_pages D.fault_count) desk.now.state frames.old (reverse self.old.fixed.items) }
+        ensures ready { OnOk result (IsReady (senses D.page_size D.tells D.told D.space_pages D.fault_count) desk.now.state frames.new (reverse self.new.fixed.items)) }
+        ensures behind { OnOk result ((o : Opened) → IsBehindIt (senses D.page_size D.tells D.told D.space_pages D.fault_count) o desk.now.state frames.old
+            → IsBehindIt (senses D.page_size D.tells D.told D.space_pages D.fault_count) o desk.now.state frames.new) }
         ensures fewer { OnOk result (length self.new.fixed.items + 1 ≡ length self.old.fixed.items) }
         ensures next { OnOk result (self.new.next ≡ self.old.next + 1) }
         ensures pass { OnOk result (self.new.pass ≡ self.old.pass) }
@@ -372,20 +419,30 @@ impl Worker {
         let page = held.page;
         let frame = held.frame;
         let fix = held.number;
-        self.note(place, Note::Unfixed { page, frame, fix })
+        self.note(place, Note::Unfixed { page, frame, fix })?;
+        let_go(frames, frame);
+        Ok(())
     }
 
     /// Gives back what it holds, the newest first.
-    fn give_back_all<D: PageDisk>(&mut self, desk: &Desk<D>) -> Result<(), OutOfMemory>
+    fn give_back_all<D: PageDisk>(
+        &mut self,
+        desk: &Desk<D>,
+        frames: &mut PlainFrames,
+    ) -> Result<(), OutOfMemory>
         requires places { desk.now.state.config.first + length desk.now.state.history < 2 ^ 64 }
         requires number { self.old.next + length self.old.fixed.items < 2 ^ 32 }
+        requires ready { IsReady (senses D.page_size D.tells D.told D.space_pages D.fault_count) desk.now.state frames.old (reverse self.old.fixed.items) }
+        ensures ready { OnOk result (IsReady (senses D.page_size D.tells D.told D.space_pages D.fault_count) desk.now.state frames.new []) }
+        ensures behind { OnOk result ((o : Opened) → IsBehindIt (senses D.page_size D.tells D.told D.space_pages D.fault_count) o desk.now.state frames.old
+            → IsBehindIt (senses D.page_size D.tells D.told D.space_pages D.fault_count) o desk.now.state frames.new) }
         ensures pass { OnOk result (self.new.pass ≡ self.old.pass) }
         ensures done { OnOk result ((o : Opening) (start : Start) (log : Seen) (past : List Event) (commands : List Command)
             → Ending (senses D.page_size D.tells D.told D.space_pages D.fault_count) o start desk.now.state log (working self.old) past commands
             → Worked (senses D.page_size D.tells D.told D.space_pages D.fault_count) o start desk.now.state log (working self.new) past commands) }
     {
         while !self.fixed.is_empty() {
-            self.give_back(desk)?;
+            self.give_back(desk, frames)?;
         }
         Ok(())
     }
@@ -395,30 +452,34 @@ impl Worker {
         &mut self,
         alloc: Global,
         desk: &mut Desk<D>,
+        frames: &mut PlainFrames,
         redo: &mut Redo<R>,
         commands: &[Command],
     ) -> Result<(), OutOfMemory>
-        requires places { desk.old.state.config.first + length desk.old.state.history + 2 * length commands.now + 2 < 2 ^ 64 }
+        requires places { desk.old.state.config.first + length desk.old.state.history + 2 * length commands.now + 2 < 2 ^ 48 }
         requires number { self.old.next + 2 * length commands.now < 2 ^ 32 }
+        requires few { length commands.now < 2 ^ 14 }
         requires new { length self.old.fixed.items ≡ 0 }
+        requires ready { IsReady (senses D.page_size D.tells D.told D.space_pages D.fault_count) desk.old.state frames.old (reverse self.old.fixed.items) }
         requires ranges { AllByRecursion (IsInRange desk.old.state.config.page) commands.now }
         requires known { log_end desk.old.state.history ≤ redo.old.seen.end }
         ensures config { OnOk result (desk.new.state.config ≡ desk.old.state.config) }
         ensures grown { OnOk result (length desk.new.state.history ≤ length desk.old.state.history + 2 * length commands.now) }
         ensures disk { OnOk result (IsSameDisk D.page_size D.tells D.told D.space_pages D.fault_count
             desk.old.state.disk desk.new.state.disk) }
-        ensures behind { OnOk result ((o : Opened) → IsBehind D.tells D.told D.space_pages o desk.old.state
-            → IsBehind D.tells D.told D.space_pages o desk.new.state) }
+        ensures ready { OnOk result (IsReady (senses D.page_size D.tells D.told D.space_pages D.fault_count) desk.new.state frames.new []) }
+        ensures behind { OnOk result ((o : Opened) → IsBehindIt (senses D.page_size D.tells D.told D.space_pages D.fault_count) o desk.old.state frames.old
+            → IsBehindIt (senses D.page_size D.tells D.told D.space_pages D.fault_count) o desk.new.state frames.new) }
         ensures log { OnOk result (IsLater redo.old.seen redo.new.seen) }
         ensures known { OnOk result (log_end desk.new.state.history ≤ redo.new.seen.end) }
         ensures opening { redo.new.opening ≡ redo.old.opening }
         ensures pass { OnOk result (self.new.pass ≡ self.old.pass) }
         ensures done { OnOk result ((o : Opening) (start : Start) (past : List Event)
             → SoFar (senses D.page_size D.tells D.told D.space_pages D.fault_count) o start desk.old.state redo.old.seen (working self.old) past []
-            → StandsBehind (senses D.page_size D.tells D.told D.space_pages D.fault_count) o start desk.old.state
+            → StandsBehind (senses D.page_size D.tells D.told D.space_pages D.fault_count) o start desk.old.state frames.old
             → Worked (senses D.page_size D.tells D.told D.space_pages D.fault_count) o start desk.new.state redo.new.seen (working self.new) past commands.now) }
     {
-        self.do_all(alloc, desk, redo, commands)?;
-        self.give_back_all(desk)
+        self.do_all(alloc, desk, frames, redo, commands)?;
+        self.give_back_all(desk, frames)
     }
 }

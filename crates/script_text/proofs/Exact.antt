@@ -18,7 +18,7 @@ use Rattle.script_text.proofs.Cuts.{Lacks, decimal_lacks, words_joined, cut_here
 use Rattle.script_text.specs.declared.script.Command.{Command}
 use Rattle.script_text.specs.declared.script.Command.TheVariants.{Fix, Read, Put, Unfix}
 use Rattle.script_text.specs.declared.lines.Setting.{Setting}
-use Rattle.script_text.specs.declared.lines.Setting.TheVariants.{Page, Frames, Size, Max, Lsn}
+use Rattle.script_text.specs.declared.lines.Setting.TheVariants.{Page, Frames, Size, Max, OldPct, OldTime, OldMin, Lsn}
 use Rattle.script_text.specs.declared.lines.Item.{Item}
 use Rattle.script_text.specs.declared.lines.Item.TheVariants.{Nothing, Set, Thread, Does}
 use Rattle.script_text.specs.declared.lines.Keyword.{Keyword}
@@ -87,6 +87,9 @@ setting_found Page = refl
 setting_found Frames = refl
 setting_found Size = refl
 setting_found Max = refl
+setting_found OldPct = refl
+setting_found OldTime = refl
+setting_found OldMin = refl
 setting_found Lsn = refl
 
 setting_lacks : (name : Setting) → Lacks 32 (setting_name name)
@@ -97,6 +100,9 @@ setting_lacks name = All-from_recursion (λ x. (x == 32) ≡ false) (setting_nam
     each Frames = search rules
     each Size = search rules
     each Max = search rules
+    each OldPct = search rules
+    each OldTime = search rules
+    each OldMin = search rules
     each Lsn = search rules
 
 literal_lacks : (w : List ℕ) → AllByRecursion (λ x. (x == 32) ≡ false) w → Lacks 32 w
@@ -208,6 +214,9 @@ set_something Page w = refl
 set_something Frames w = refl
 set_something Size w = refl
 set_something Max w = refl
+set_something OldPct w = refl
+set_something OldTime w = refl
+set_something OldMin w = refl
 set_something Lsn w = refl
 
 pub spelled_is_read : (line : List ℕ) (i : Item) → IsSpelled i line → line_says line ≡ Some i

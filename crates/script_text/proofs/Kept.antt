@@ -21,7 +21,7 @@ use Rattle.script_text.specs.Within.{IsSettled, IsInRange, IsWithin}
 use Rattle.script_text.specs.declared.script.Command.{Command}
 use Rattle.script_text.specs.declared.script.Command.TheVariants.{Fix, Read, Put, Unfix}
 use Rattle.script_text.specs.declared.lines.Setting.{Setting}
-use Rattle.script_text.specs.declared.lines.Setting.TheVariants.{Page, Frames, Size, Max, Lsn}
+use Rattle.script_text.specs.declared.lines.Setting.TheVariants.{Page, Frames, Size, Max, OldPct, OldTime, OldMin, Lsn}
 use Rattle.script_text.specs.declared.lines.Item.{Item}
 use Rattle.script_text.specs.declared.lines.Item.TheVariants.{Nothing, Set, Thread, Does}
 
@@ -34,11 +34,14 @@ record Kept (s : SoFar) : Type 0 where
 
 -- a setting in its range leaves the pool's numbers in theirs
 settled : (c : Config) (name : Setting) (n : ℕ) → is_settable name n ≡ true → IsSettled c → IsSettled (with_setting c name n)
-settled c Page n r h = record { instances = h.instances; frames = h.frames; size = h.size; max = h.max; lsn = h.lsn; first = h.first }
-settled c Frames n r h = record { instances = h.instances; frames = (grind (arith, nat_tests), grind (arith, nat_tests)); size = h.size; max = h.max; lsn = h.lsn; first = h.first }
-settled c Size n r h = record { instances = h.instances; frames = h.frames; size = (grind (arith, nat_tests), grind (arith, nat_tests)); max = h.max; lsn = h.lsn; first = h.first }
-settled c Max n r h = record { instances = h.instances; frames = h.frames; size = h.size; max = (grind (arith, nat_tests), grind (arith, nat_tests)); lsn = h.lsn; first = h.first }
-settled c Lsn n r h = record { instances = h.instances; frames = h.frames; size = h.size; max = h.max; lsn = (grind (arith, nat_tests), grind (arith, nat_tests)); first = h.first }
+settled c Page n r h = record { instances = h.instances; frames = h.frames; size = h.size; max = h.max; pct = h.pct; time = h.time; min = h.min; lsn = h.lsn; first = h.first }
+settled c Frames n r h = record { instances = h.instances; frames = (grind (arith, nat_tests), grind (arith, nat_tests)); size = h.size; max = h.max; pct = h.pct; time = h.time; min = h.min; lsn = h.lsn; first = h.first }
+settled c Size n r h = record { instances = h.instances; frames = h.frames; size = (grind (arith, nat_tests), grind (arith, nat_tests)); max = h.max; pct = h.pct; time = h.time; min = h.min; lsn = h.lsn; first = h.first }
+settled c Max n r h = record { instances = h.instances; frames = h.frames; size = h.size; max = (grind (arith, nat_tests), grind (arith, nat_tests)); pct = h.pct; time = h.time; min = h.min; lsn = h.lsn; first = h.first }
+settled c OldPct n r h = record { instances = h.instances; frames = h.frames; size = h.size; max = h.max; pct = (grind (arith, nat_tests), grind (arith, nat_tests)); time = h.time; min = h.min; lsn = h.lsn; first = h.first }
+settled c OldTime n r h = record { instances = h.instances; frames = h.frames; size = h.size; max = h.max; pct = h.pct; time = grind (arith, nat_tests); min = h.min; lsn = h.lsn; first = h.first }
+settled c OldMin n r h = record { instances = h.instances; frames = h.frames; size = h.size; max = h.max; pct = h.pct; time = h.time; min = (grind (arith, nat_tests), grind (arith, nat_tests)); lsn = h.lsn; first = h.first }
+settled c Lsn n r h = record { instances = h.instances; frames = h.frames; size = h.size; max = h.max; pct = h.pct; time = h.time; min = h.min; lsn = (grind (arith, nat_tests), grind (arith, nat_tests)); first = h.first }
 
 in_range : (size : PageSize) (c : Command) → IsTyped c → is_in_range size c ≡ true → IsInRange size c
 in_range size (Fix p now) h r = h
@@ -105,7 +108,7 @@ kept_read s t (line ∷ lines) (mid, (i, spelled, stepped), rest) h = kept_read 
 
 kept_at_start : Kept nothing_said
 kept_at_start = record {
-  config = record { instances = refl; frames = (omega arith, omega arith); size = (omega arith, omega arith); max = (omega arith, omega arith); lsn = (omega arith, omega arith); first = refl };
+  config = record { instances = refl; frames = (omega arith, omega arith); size = (omega arith, omega arith); max = (omega arith, omega arith); pct = (omega arith, omega arith); time = omega arith; min = (omega arith, omega arith); lsn = (omega arith, omega arith); first = refl };
   threads = omega arith;
   few = omega arith;
   limit = omega arith;

@@ -9,7 +9,7 @@ use Rattle.script_text.specs.Text.{IsSpelled}
 use Rattle.script_text.specs.declared.script.Command.{Command}
 use Rattle.script_text.specs.declared.script.Command.TheVariants.{Fix, Read, Put, Unfix}
 use Rattle.script_text.specs.declared.lines.Setting.{Setting}
-use Rattle.script_text.specs.declared.lines.Setting.TheVariants.{Page, Frames, Size, Max, Lsn}
+use Rattle.script_text.specs.declared.lines.Setting.TheVariants.{Page, Frames, Size, Max, OldPct, OldTime, OldMin, Lsn}
 use Rattle.script_text.specs.declared.lines.Item.{Item}
 use Rattle.script_text.specs.declared.lines.Item.TheVariants.{Nothing, Set, Thread, Does}
 
@@ -36,7 +36,7 @@ usual = record {
 }
 
 abbrev pub nothing_said : SoFar
-nothing_said = record { config = usual; settings = false ∷ false ∷ false ∷ false ∷ false ∷ []; threads = []; commands = 0 }
+nothing_said = record { config = usual; settings = false ∷ false ∷ false ∷ false ∷ false ∷ false ∷ false ∷ false ∷ []; threads = []; commands = 0 }
 
 -- the setting's place among those that a script may set
 abbrev pub place_of : Setting → ℕ
@@ -44,7 +44,10 @@ place_of Page = 0
 place_of Frames = 1
 place_of Size = 2
 place_of Max = 3
-place_of Lsn = 4
+place_of OldPct = 4
+place_of OldTime = 5
+place_of OldMin = 6
+place_of Lsn = 7
 
 abbrev pub was_set : SoFar → Setting → Bool
 was_set s name = slice_index_or s.settings (place_of name) false
@@ -58,6 +61,9 @@ is_settable Page n = is_page_size n
 is_settable Frames n = is_within 1 8192 n
 is_settable Size n = is_within 1 (2 ^ 31) n
 is_settable Max n = is_within 1 16 n
+is_settable OldPct n = is_within 5 95 n
+is_settable OldTime n = is_within 0 (2 ^ 32 - 1) n
+is_settable OldMin n = is_within 1 16384 n
 is_settable Lsn n = is_within 1 (2 ^ 63 - 1) n
 
 -- the size of so many bytes
@@ -69,6 +75,9 @@ with_setting c Page n = record c { page = size_of n }
 with_setting c Frames n = record c { frames = n }
 with_setting c Size n = record c { size = n }
 with_setting c Max n = record c { max = n }
+with_setting c OldPct n = record c { old_pct = n }
+with_setting c OldTime n = record c { old_time = n }
+with_setting c OldMin n = record c { old_min = n }
 with_setting c Lsn n = record c { lsn = n }
 
 -- so many bytes from there on are few, and lie between the header and the trailer of a page of this size

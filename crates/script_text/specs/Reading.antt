@@ -7,7 +7,7 @@ use Rattle.page_ids.specs.declared.ids.PageId.{PageId}
 use Rattle.script_text.specs.Text.{is_nothing, setting_name}
 use Rattle.script_text.specs.declared.script.Command.TheVariants.{Fix, Read, Put, Unfix}
 use Rattle.script_text.specs.declared.lines.Setting.{Setting}
-use Rattle.script_text.specs.declared.lines.Setting.TheVariants.{Page, Frames, Size, Max, Lsn}
+use Rattle.script_text.specs.declared.lines.Setting.TheVariants.{Page, Frames, Size, Max, OldPct, OldTime, OldMin, Lsn}
 use Rattle.script_text.specs.declared.lines.Item.{Item}
 use Rattle.script_text.specs.declared.lines.Item.TheVariants.{Nothing, Set, Thread, Does}
 use Rattle.script_text.specs.declared.lines.Keyword.{Keyword}
@@ -63,7 +63,8 @@ found w (k ∷ ks) = if bytes_eq w (keyword_text k) then Some k else found w ks
 
 abbrev pub keywords : List Keyword
 keywords =
-    keyword.Set Page ∷ keyword.Set Frames ∷ keyword.Set Size ∷ keyword.Set Max ∷ keyword.Set Lsn
+    keyword.Set Page ∷ keyword.Set Frames ∷ keyword.Set Size ∷ keyword.Set Max
+    ∷ keyword.Set OldPct ∷ keyword.Set OldTime ∷ keyword.Set OldMin ∷ keyword.Set Lsn
     ∷ keyword.Thread ∷ keyword.Fix ∷ keyword.Read ∷ keyword.Put ∷ keyword.Unfix ∷ []
 
 abbrev pub keyword_of : List ℕ → Option Keyword

@@ -7,7 +7,7 @@ use Rattle.page_ids.specs.declared.ids.PageId.{PageId}
 use Rattle.script_text.specs.declared.script.Command.{Command}
 use Rattle.script_text.specs.declared.script.Command.TheVariants.{Fix, Read, Put, Unfix}
 use Rattle.script_text.specs.declared.lines.Setting.{Setting}
-use Rattle.script_text.specs.declared.lines.Setting.TheVariants.{Page, Frames, Size, Max, Lsn}
+use Rattle.script_text.specs.declared.lines.Setting.TheVariants.{Page, Frames, Size, Max, OldPct, OldTime, OldMin, Lsn}
 use Rattle.script_text.specs.declared.lines.Item.{Item}
 use Rattle.script_text.specs.declared.lines.Item.TheVariants.{Nothing, Set, Thread, Does}
 
@@ -16,6 +16,9 @@ setting_name Page = codes "page"
 setting_name Frames = codes "frames"
 setting_name Size = codes "size"
 setting_name Max = codes "max"
+setting_name OldPct = codes "old_pct"
+setting_name OldTime = codes "old_time"
+setting_name OldMin = codes "old_min"
 setting_name Lsn = codes "lsn"
 
 abbrev pub command_words : Command → List (List ℕ)

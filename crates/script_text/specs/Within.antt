@@ -17,6 +17,9 @@ pub record IsSettled (c : Config) : Type 0 where
   pub frames : (1 ≤ c.frames) × (c.frames ≤ 8192)
   pub size : (1 ≤ c.size) × (c.size ≤ 2 ^ 31)
   pub max : (1 ≤ c.max) × (c.max ≤ 16)
+  pub pct : (5 ≤ c.old_pct) × (c.old_pct ≤ 95)
+  pub time : c.old_time < 2 ^ 32
+  pub min : (1 ≤ c.old_min) × (c.old_min ≤ 16384)
   pub lsn : (1 ≤ c.lsn) × (c.lsn < 2 ^ 63)
   pub first : c.first ≡ 0
 

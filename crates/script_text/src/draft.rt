@@ -14,7 +14,7 @@ use std::marker::Model;
 #[derive(Debug, Drop)]
 pub struct Draft {
     config: Config,
-    settings: [bool; 5],
+    settings: [bool; 8],
     threads: Vec<Vec<Command>>,
     commands: u32,
 }
@@ -48,14 +48,17 @@ fn usual() -> Config
 
 fn place(setting: Setting) -> usize
     ensures place { result ≡ place_of setting }
-    ensures few { result < 5 }
+    ensures few { result < 8 }
 {
     match setting {
         Setting::Page => 0,
         Setting::Frames => 1,
         Setting::Size => 2,
         Setting::Max => 3,
-        Setting::Lsn => 4,
+        Setting::OldPct => 4,
+        Setting::OldTime => 5,
+        Setting::OldMin => 6,
+        Setting::Lsn => 7,
     }
 }
 
@@ -67,6 +70,9 @@ fn is_settable(setting: Setting, n: u64) -> bool
         Setting::Frames => 1 <= n && n <= 8192,
         Setting::Size => 1 <= n && n <= 2147483648,
         Setting::Max => 1 <= n && n <= 16,
+        Setting::OldPct => 5 <= n && n <= 95,
+        Setting::OldTime => n <= 0xffff_ffff,
+        Setting::OldMin => 1 <= n && n <= 16384,
         Setting::Lsn => 1 <= n && n <= 0x7fff_ffff_ffff_ffff,
     }
 }
@@ -97,6 +103,18 @@ fn with_setting(config: Config, setting: Setting, n: u64) -> Config
         Setting::Size => Config { size: n, ..config },
         Setting::Max => Config {
             max: n as u32,
+            ..config
+        },
+        Setting::OldPct => Config {
+            old_pct: n as u32,
+            ..config
+        },
+        Setting::OldTime => Config {
+            old_time: n,
+            ..config
+        },
+        Setting::OldMin => Config {
+            old_min: n as u32,
             ..config
         },
         Setting::Lsn => Config { lsn: n, ..config },
@@ -144,7 +162,7 @@ impl Draft {
     {
         Draft {
             config: usual(),
-            settings: [false, false, false, false, false],
+            settings: [false; 8],
             threads: Vec::new(alloc),
             commands: 0,
         }

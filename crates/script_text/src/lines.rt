@@ -15,6 +15,9 @@ pub enum Setting {
     Frames,
     Size,
     Max,
+    OldPct,
+    OldTime,
+    OldMin,
     Lsn,
 }
 
@@ -51,6 +54,12 @@ fn keyword_of(word: &[u8]) -> Option<Keyword>
         Some(Keyword::Set(Setting::Size))
     } else if word == b"max".as_slice() {
         Some(Keyword::Set(Setting::Max))
+    } else if word == b"old_pct".as_slice() {
+        Some(Keyword::Set(Setting::OldPct))
+    } else if word == b"old_time".as_slice() {
+        Some(Keyword::Set(Setting::OldTime))
+    } else if word == b"old_min".as_slice() {
+        Some(Keyword::Set(Setting::OldMin))
     } else if word == b"lsn".as_slice() {
         Some(Keyword::Set(Setting::Lsn))
     } else if word == b"thread".as_slice() {

@@ -35,7 +35,7 @@ fn repeated(alloc: Global, text: &[u8], line: &[u8], times: u32) -> Result<Vec<u
 
 #[test]
 fn lines_that_are_in_the_grammar(rt: HostRuntime) -> Result<(), Fail> {
-    let texts: [&[u8]; 30] = [
+    let texts: [&[u8]; 38] = [
         b"",
         b"\n",
         b"\n\n",
@@ -66,6 +66,14 @@ fn lines_that_are_in_the_grammar(rt: HostRuntime) -> Result<(), Fail> {
         b"lsn 1",
         b"lsn 9223372036854775807",
         b"max 2\nlsn 8192\npage 16384",
+        b"old_pct 5",
+        b"old_pct 95",
+        b"old_time 0",
+        b"old_time 4294967295",
+        b"old_min 1",
+        b"old_min 16384",
+        b"old_min 512\nold_time 1000\nold_pct 37",
+        b"old_time 1\nlsn 1\nold_min 2\nmax 2\nold_pct 50\nsize 1\nthread 1",
     ];
     for text in texts {
         assert_eq!(rt; bad_line(rt.alloc(), text)?, None, "{text:?}");
@@ -75,7 +83,7 @@ fn lines_that_are_in_the_grammar(rt: HostRuntime) -> Result<(), Fail> {
 
 #[test]
 fn blanks_and_unknown_words(rt: HostRuntime) -> Result<(), Fail> {
-    let rows: [(&[u8], u32); 30] = [
+    let rows: [(&[u8], u32); 37] = [
         (b" ", 1),
         (b"\t", 1),
         (b"\r", 1),
@@ -93,6 +101,13 @@ fn blanks_and_unknown_words(rt: HostRuntime) -> Result<(), Fail> {
         (b"thread 1\0", 1),
         (b"page", 1),
         (b"page 4096 4096", 1),
+        (b"old_pct", 1),
+        (b"old_min 512 512", 1),
+        (b"old_time  1000", 1),
+        (b"old 37", 1),
+        (b"old pct 37", 1),
+        (b"old-pct 37", 1),
+        (b"OLD_PCT 37", 1),
         (b"thread 1\nfix 0:\xff 1", 2),
         (b"thread 1\nfix 0:0", 2),
         (b"thread 1\nfix 0 0", 2),
@@ -115,7 +130,7 @@ fn blanks_and_unknown_words(rt: HostRuntime) -> Result<(), Fail> {
 
 #[test]
 fn numbers_past_their_limits(rt: HostRuntime) -> Result<(), Fail> {
-    let rows: [(&[u8], u32); 40] = [
+    let rows: [(&[u8], u32); 54] = [
         (b"thread 01", 1),
         (b"thread +1", 1),
         (b"thread -1", 1),
@@ -137,6 +152,20 @@ fn numbers_past_their_limits(rt: HostRuntime) -> Result<(), Fail> {
         (b"max 0", 1),
         (b"max 17", 1),
         (b"max 4294967297", 1),
+        (b"old_pct 0", 1),
+        (b"old_pct 4", 1),
+        (b"old_pct 96", 1),
+        (b"old_pct 037", 1),
+        (b"old_pct 4294967333", 1),
+        (b"old_time 4294967296", 1),
+        (b"old_time 18446744073709551616", 1),
+        (b"old_time 00", 1),
+        (b"old_time -1", 1),
+        (b"old_min 0", 1),
+        (b"old_min 16385", 1),
+        (b"old_min +512", 1),
+        (b"old_min 4294967808", 1),
+        (b"old_min 1\nold_pct 95\nold_time 0\n\nlsn 0", 5),
         (b"thread 1\nfix 00:0 0", 2),
         (b"thread 1\nfix 0:00 0", 2),
         (b"thread 1\nfix 0:0 00", 2),
@@ -289,10 +318,18 @@ fn what_a_put_asks_for(rt: HostRuntime) -> Result<(), Fail> {
 
 #[test]
 fn order_and_the_whole(rt: HostRuntime) -> Result<(), Fail> {
-    let rows: [(&[u8], u32); 28] = [
+    let rows: [(&[u8], u32); 33] = [
         (b"max 2\nmax 2", 2),
         (b"lsn 8192\nmax 2\nlsn 8193", 3),
         (b"lsn 8192\nlsn 8192", 2),
+        (b"old_pct 37\nold_pct 37", 2),
+        (b"old_time 0\nold_min 1\nold_time 1", 3),
+        (b"old_min 512\n#\nold_min 513", 3),
+        (b"old_pct 5\nold_pct 4", 2),
+        (b"thread 1\nold_pct 37", 2),
+        (b"thread 1\nold_time 1000", 2),
+        (b"thread 1\nold_min 512", 2),
+        (b"old_min 512\nmax 16", 0),
         (b"page 4096\nframes 4\npage 4096", 3),
         (b"thread 1\nmax 2", 2),
         (b"thread 1\nlsn 8192", 2),
@@ -304,9 +341,6 @@ fn order_and_the_whole(rt: HostRuntime) -> Result<(), Fail> {
         (b"thread 1\nthread 2", 2),
         (b"max 17\nmax 0", 1),
         (b"instances 1", 1),
-        (b"old_pct 37", 1),
-        (b"old_time 1000", 1),
-        (b"old_min 512", 1),
         (b"first 0", 1),
         (b"thread 1\ncreate 0:0 1", 2),
         (b"thread 1\nguess 0:0", 2),
@@ -387,6 +421,34 @@ fn what_a_script_asks_for(rt: HostRuntime) -> Result<(), Fail> {
         (config.frames, config.size, config.max),
         (8192, 134217728, 2)
     );
+    Ok(())
+}
+
+/// What the three settings of the old sublist are in this script.
+fn old_numbers(alloc: Global, text: &[u8]) -> Result<(u32, u64, u32), ScriptErr> {
+    let script = read_script(alloc, text)?;
+    let config = *script.config();
+    Ok((config.old_pct, config.old_time, config.old_min))
+}
+
+#[test]
+fn the_old_sublist(rt: HostRuntime) -> Result<(), Fail> {
+    let rows: [(&[u8], (u32, u64, u32)); 10] = [
+        (b"", (37, 1000, 512)),
+        (b"thread 1", (37, 1000, 512)),
+        (b"old_pct 5", (5, 1000, 512)),
+        (b"old_pct 95", (95, 1000, 512)),
+        (b"old_time 0", (37, 0, 512)),
+        (b"old_time 4294967295", (37, 4294967295, 512)),
+        (b"old_min 1", (37, 1000, 1)),
+        (b"old_min 16384", (37, 1000, 16384)),
+        (b"old_pct 6\nold_time 7\nold_min 8", (6, 7, 8)),
+        (b"old_min 8\nold_time 7\nmax 2\nold_pct 6", (6, 7, 8)),
+    ];
+    for (text, numbers) in rows {
+        let found = old_numbers(rt.alloc(), text);
+        assert_eq!(rt; found, Ok(numbers), "{text:?}");
+    }
     Ok(())
 }
 

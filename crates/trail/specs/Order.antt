@@ -31,6 +31,7 @@ order_after n (kind.Unwatch p) o = o
 order_after n (kind.Dump pct ids) o = o
 order_after n (kind.Refused asked why) o = o
 
+-- the order after the whole history
 abbrev pub order : Config → List Entry → Order PageId
 order c [] = empty_order
 order c (e ∷ h) = order_after (numbers_of c) e.kind (order c h)

@@ -5,17 +5,17 @@ use Rattle.trail.specs.declared.event.Dirty.{Dirty}
 use Rattle.desk.proofs.Dirt.{soiled_there, soiled_anew}
 use Rattle.desk.proofs.parts.soil.Goals as goal
 
-pub returns-in-Some : goal.returns-in-Some
-returns-in-Some c =
+pub returns-in-Some-clause-items : goal.returns-in-Some-clause-items
+returns-in-Some-clause-items c =
     let ds = c.args.dirty.now.items in
     let place = c.in-Some.place in
     let was = c.index_mut-listed.result.now in
     let found : position (λ (d : Dirty). same_page d.page c.args.page) ds ≡ Some place = search rules in
     let here : was ≡ get_or ds place was = search rules in
-    record { items = soiled_there c.args.page c.args.span.start c.args.span.end ds place was found here }
+    soiled_there c.args.page c.args.span.start c.args.span.end ds place was found here
 
-pub returns-in-None : goal.returns-in-None
-returns-in-None c =
+pub returns-in-None-clause-items : goal.returns-in-None-clause-items
+returns-in-None-clause-items c =
     let ds = c.args.dirty.now.items in
     let found : position (λ (d : Dirty). same_page d.page c.args.page) ds ≡ None = search rules in
-    record { items = c.push_back_reserved.ensures.items ∙ soiled_anew c.args.page c.args.span.start c.args.span.end ds found }
+    c.push_back_reserved.ensures.items ∙ soiled_anew c.args.page c.args.span.start c.args.span.end ds found

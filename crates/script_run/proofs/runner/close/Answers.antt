@@ -5,7 +5,9 @@ use Rattle.trail.specs.declared.event.Entry.{Entry}
 use Rattle.trail.specs.Dirt.{dirty}
 use Rattle.desk.specs.declared.calls.CleanErr.{CleanErr}
 use Rattle.desk.specs.Changes.{IsCleanRefusal}
+use Rattle.script_run.specs.Work.{senses}
 use Rattle.script_run.specs.Runs.{IsClosed}
+use Rattle.script_run.proofs.Framing.{all_told}
 use Rattle.script_run.proofs.Flushing.{runner, few_dirty, write_backs}
 use Rattle.script_run.proofs.runner.close.Goals as goal
 use Rattle.script_run.proofs.runner.close.Goals.{in-Ok, in-Err-OutOfMemory, in-Err-RedoFault, in-Err-DiskFault}
@@ -14,6 +16,11 @@ use Rattle.script_run.proofs.runner.close.Goals.{in-Ok, in-Err-OutOfMemory, in-E
 none_left : (written few : ℕ) (old new : List Entry) → written + few ≤ length old → length old < 16384 → (written ≡ 16384) ⊎ (dirty new ≡ []) → dirty new ≡ []
 none_left written few old new le less (inl full) = absurd (omega (arith, le, less, full))
 none_left written few old new le less (inr none) = none
+
+pub clean_at-requires-clause-alone : goal.clean_at-requires-clause-alone
+clean_at-requires-clause-alone g c κs within =
+    let sense = senses g.D.PageDisk.page_size g.D.PageDisk.tells g.D.PageDisk.told g.D.PageDisk.space_pages g.D.PageDisk.fault_count in
+    all_told sense c.args.desk.now.state c.args.frames.now [] c.requires.ready
 
 pub returns-clause-closed : goal.returns-clause-closed
 returns-clause-closed g c =

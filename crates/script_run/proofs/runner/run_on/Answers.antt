@@ -1,4 +1,4 @@
-use Rattle.std.proofs.Common.{◌≡◌, ◌≤◌, ℕ, List, [], ◌∷◌, Option, None, Some, IfSome, ap, ◌∙◌, sym, subst, refl, rules, arith, reverse, length}
+use Rattle.std.proofs.Common.{◌≡◌, ◌<◌, ◌≤◌, ℕ, List, [], ◌∷◌, Option, None, Some, IfSome, ap, ◌∙◌, sym, subst, refl, rules, arith, reverse, length}
 use Rattle.std.specs.List.{AllByRecursion}
 use Rattle.std.specs.Prelude.{unwrap_or}
 use Rattle.std.proofs.lemmas.List.{length-reverse}
@@ -12,19 +12,24 @@ use Rattle.redo_mark.specs.Logs.{Seen, IsAllKept}
 use Rattle.trail.specs.declared.event.Entry.{Entry}
 use Rattle.trail.specs.declared.event.Receipt.{Receipt}
 use Rattle.trail.specs.declared.event.Event.{Event}
+use Rattle.trail.specs.declared.event.Held.{Held}
 use Rattle.trail.specs.Opening.{Opening}
 use Rattle.trail.specs.Merging.{lists, merged, AllWithin}
 use Rattle.trail.specs.Places.{AreNumbered, mark, entries}
 use Rattle.trail.specs.Dirt.{log_end}
 use Rattle.desk.specs.Base.{Opened, IsBase}
-use Rattle.desk.specs.Behind.{IsBehind, IsOpening}
+use Rattle.desk.specs.Behind.{IsOpening}
+use Rattle.frame_words.specs.Plain.{Plain, seen_of}
+use Rattle.desk.specs.Ledger.{IsOneChunk}
 use Rattle.desk.specs.Logged.{IsLogged}
-use Rattle.desk.specs.Steps.{IsFresh}
+use Rattle.desk.specs.State.{State}
+use Rattle.desk.specs.Steps.{IsFresh, row_in}
+use Rattle.desk.specs.Tied.{AreTied}
 use Rattle.script_text.specs.Plan.{commands_of}
 use Rattle.script_text.specs.Within.{IsInRange}
 use Rattle.script_text.specs.declared.script.Command.{Command}
 use Rattle.script_run.specs.Openings.{Start, opening_of, opened_of, AreFaultsWithin}
-use Rattle.script_run.specs.Work.{Working, SoFar, StandsBehind, Worked, senses}
+use Rattle.script_run.specs.Work.{Senses, Working, SoFar, StandsBehind, Worked, IsReady, IsBehindIt, AreInChunk, senses}
 use Rattle.script_run.specs.Workers.{working}
 use Rattle.script_run.specs.Runs.{IsDiskOf, AreKept, EndsBehind, reports}
 use Rattle.script_run.proofs.Finished.{so_far_new, finished, Merges}
@@ -34,6 +39,29 @@ use Rattle.script_run.proofs.runner.run_on.Goals as goal
 
 none_held : {A : Type 0} (xs : List A) → reverse xs ≡ [] → length xs ≡ 0
 none_held xs e = sym (length-reverse xs) ∙ ap (length {A = _}) e
+
+-- a desk with an empty history and its blank frames are ready
+ready_new : {D : Type 0} (sense : Senses D) (desk : State D) (frames : Plain) → AreTied sense.tells sense.told sense.spaces (seen_of frames) desk → desk.history ≡ []
+    → ((f : ℕ) → f < length frames.rows → (row_in frames.rows f).held ≡ Some 0) → IsReady sense desk frames []
+ready_new sense desk frames tied none unfixed = record {
+  tied = tied;
+  homes = let H : List Entry → Type 0 = λ h. AreInChunk desk.config h in subst H (sym none) (λ p f here. absurd (cc));
+  housed = tt;
+  held = unfixed;
+}
+
+pub new-requires-clause-start : goal.new-requires-clause-start
+new-requires-clause-start g c κs within =
+    let I : Config → Type 0 = λ config. IsOneChunk config in
+    let is = c.requires.script.config in
+    subst I (sym c.config-config.ensures) (record { one = c.requires.script.chunks; frames = is.frames.1; max = is.max; percent = omega (arith, is.pct.1) })
+
+pub work-requires-clause-ready : goal.work-requires-clause-ready
+work-requires-clause-ready g c κs within =
+    let sense = senses g.D.PageDisk.page_size g.D.PageDisk.tells g.D.PageDisk.told g.D.PageDisk.space_pages g.D.PageDisk.fault_count in
+    let R : List Held → Type 0 = λ fixed. IsReady sense c.in-Ok-new.desk.state c.in_ok-frames.frames fixed in
+    subst R (sym (ap (λ (w : Working). w.fixed) c.new-worker.ensures))
+    (ready_new sense c.in-Ok-new.desk.state c.in_ok-frames.frames c.in_ok-frames.ensures.tied c.in-Ok-new.ensures.fresh.history c.in_ok-frames.ensures.unfixed)
 
 pub work-requires-clause-new : goal.work-requires-clause-new
 work-requires-clause-new g c κs within = none_held c.new-worker.result.fixed.items (ap (λ (w : Working). w.fixed) c.new-worker.ensures)
@@ -57,6 +85,7 @@ returns-clause-run g c =
     let disk : D = c.args.disk in
     let last : D = c.end-disk.result.0 in
     let start : Start = record { told = told disk; disk_faults = sense.faults disk; log_faults = report.faults c.args.log } in
+    let frames = c.in_ok-frames.frames in
     let desk = c.work.new.desk.state in
     let new = c.close.new.desk.state in
     let was : Seen = c.work.new.redo.seen in
@@ -81,7 +110,7 @@ returns-clause-run g c =
     let spaces_are : (s : ℕ) → sense.spaces last s ≡ sense.spaces disk s = λ s.
     ap (λ d. sense.spaces d s) last_is ∙ c.close.ensures.spaces s ∙ c.in_ok-work.ensures.disk.spaces_are s ∙ ap (λ d. sense.spaces d s) fresh.disk_is in
     let C : List Command → Type 0 = λ commands. (o : Opening) (begin : Start) (past : List Event) → SoFar sense o begin c.in-Ok-new.desk.state c.in-Ok.redo.seen (working c.new-worker.result) past []
-    → StandsBehind sense o begin c.in-Ok-new.desk.state → Worked sense o begin desk was w past commands in
+    → StandsBehind sense o begin c.in-Ok-new.desk.state frames → Worked sense o begin desk was w past commands in
     let done = subst C c.commands.ensures c.in_ok-work.ensures.done in
     let opened : (o : Opening) (first : PageId → Option Content) → o.config ≡ plan.config → o.pages ≡ pages_in (sense.spaces last) → IsBase (told disk) o.pages first → IsOpening told spaces (opened_of o start first) (sense.size disk) disk =
     λ o first config pages based. record {
@@ -90,13 +119,13 @@ returns-clause-run g c =
       told_are = λ p. refl;
       based = based;
     } in
-    let behind : (o : Opened) → IsOpening told spaces o (sense.size disk) disk → IsBehind tells told spaces o new = λ o opening.
-    c.close.ensures.behind o (c.in_ok-work.ensures.behind o (c.in-Ok-new.ensures.behind o opening)) in
+    let behind : (o : Opened) → IsOpening told spaces o (sense.size disk) disk → IsBehindIt sense o new c.close.new.frames = λ o opening.
+    c.close.ensures.behind o (c.in_ok-work.ensures.behind o (c.in-Ok-new.ensures.behind o (seen_of frames) opening)) in
     let worked = λ (base : Option (PageId → Option Content)) (based : IfSome base (λ first. IsBase (told disk) (pages_in (sense.spaces last)) first)).
     let o = opening_of plan.config base (sense.spaces last) in
     let so = so_far_new sense plan.config base (sense.spaces last) start c.in-Ok-new.desk.state c.in-Ok.redo.seen (working c.new-worker.result) 1 disk fresh c.new-worker.ensures spaces_are
     (omega arith) (omega (arith, c.in-Ok.ensures.fresh.faults)) in
-    let stands : StandsBehind sense o start c.in-Ok-new.desk.state = on_some base _ _ (λ first e is_base. c.in-Ok-new.ensures.behind (opened_of o start first) (opened o first refl refl is_base)) based in
+    let stands : StandsBehind sense o start c.in-Ok-new.desk.state frames = on_some base _ _ (λ first e is_base. c.in-Ok-new.ensures.behind (opened_of o start first) (seen_of frames) (opened o first refl refl is_base)) based in
     done o start [] so stands in
     let all = λ (base : Option (PageId → Option Content)) (based : IfSome base (λ first. IsBase (told disk) (pages_in (sense.spaces last)) first)).
     finished sense (opening_of plan.config base (sense.spaces last)) start desk new was is w (commands_of plan) fault history account trail front
@@ -133,7 +162,7 @@ returns-clause-run g c =
       holds = λ base is_base.
           let o = opened_of (opening_of plan.config (Some base) (sense.spaces last)) start base in
           let stands = behind o (opened (opening_of plan.config (Some base) (sense.spaces last)) base refl refl is_base) in
-          let at = disk_of tells told spaces o new fault stands (λ fine p inside. c.clean_disk_holds_the_values.ensures o new stands (c.in_ok-fault.ensures.closed.clean fine) p inside) in
+          let at = disk_of tells told spaces o new (seen_of c.close.new.frames) fault stands (λ fine p inside. c.clean_disk_holds_the_values.ensures o new (seen_of c.close.new.frames) stands (c.in_ok-fault.ensures.closed.clean fine) p inside) in
           subst (λ h. IsDiskOf o.size base o.pages (told disk) (told last) fault h) (sym here) (subst (λ d. IsDiskOf o.size base o.pages (told disk) (told d) fault new.history) (sym last_is) at);
       logs = record {
         ends = subst B (sym c.close-redo.ensures.end) (ends_behind o past is good logged (subst K (sym here) c.close.ensures.known));

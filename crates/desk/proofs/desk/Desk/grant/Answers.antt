@@ -1,21 +1,34 @@
-use Rattle.std.proofs.Common.{◌≡◌, ◌+◌, ◌<◌, Some, length, arith, ap, ◌∙◌, reverse}
-use Rattle.std.proofs.lemmas.List.{length-reverse}
-use Rattle.std.proofs.lemmas.Grind.{common_steps}
-use Rattle.trail.specs.Places.{mark}
-use Rattle.trail.specs.History.{home, change}
+use Rattle.std.proofs.Common.{◌≡◌}
+use Rattle.trail.specs.declared.event.Kind.TheVariants as kind
+use Rattle.frame_words.specs.Appends.{appended}
+use Rattle.desk.specs.Steps.{next_entry}
+use Rattle.desk.proofs.Loading.{visiting, behind_on, behind_fixed}
+use Rattle.desk.proofs.Tying.{below_rows, granted, tied_on, tied_fixed}
 use Rattle.desk.proofs.desk.Desk.grant.Goals as goal
 
-pub returns-clause-hit : goal.returns-clause-hit
-returns-clause-hit g c =
-    let s = c.self.inside in
+pub returns-clause-tied : goal.returns-clause-tied
+returns-clause-tied g c =
+    let old = c.args.self.now.state in
     let f = c.args.frame in
-    let here : home (reverse s.history.items) c.args.page ≡ Some f = ap (λ d. home d.state.history c.args.page) c.self.view_is ∙ c.requires.resident in
-    let below : f < length s.images.items = c.self.invariant.0.housed c.args.page f here in
-    let count : s.config.first + c.len.result + 1 ≡ mark s.config.first (reverse s.history.items) + 1 = rw (c.self.invariant.0.places, length-reverse) (grind (arith, common_steps)) in
-    record {
-      resident = c.requires.resident;
-      clock = c.index-clock.ensures ∙ c.self.invariant.0.clocks_are f c.index-clock.result.now below ∙ ap (λ d. change d.state.history f) c.self.view_is;
-      place = count ∙ ap (λ d. mark d.state.config.first d.state.history + 1) c.self.view_is;
-      entry = c.append.ensures.appended;
-      disk = c.append.ensures.disk;
-    }
+    let s = g.F.Frames.seen c.args.frames.now in
+    let clock = c.clock-clock.result in
+    let e = next_entry old c.args.by (kind.Fix c.args.page f clock c.args.now) in
+    let seen : g.F.Frames.seen c.append.new.frames ≡ appended (visiting s f c.visit.result) e =
+    granted s (g.F.Frames.seen c.visit.new.self) (g.F.Frames.seen c.append.new.frames) f c.visit.result e c.requires.tied.none_owed c.visit.ensures.seen c.append.ensures.seen in
+    tied_on g.D.PageDisk.tells g.D.PageDisk.told g.D.PageDisk.space_pages old c.append.new.self.state c.args.by (kind.Fix c.args.page f clock c.args.now) (g.F.Frames.seen c.append.new.frames) _
+    c.append.ensures.appended c.append.ensures.disk seen
+    (tied_fixed g.D.PageDisk.tells g.D.PageDisk.told g.D.PageDisk.space_pages old.config old.instance old.history old.disk s c.args.by c.args.page f clock c.args.now c.visit.result
+    (below_rows g.D.PageDisk.tells g.D.PageDisk.told g.D.PageDisk.space_pages s old f c.requires.tied c.requires.below) c.requires.tied)
+
+pub returns-clause-behind : goal.returns-clause-behind
+returns-clause-behind g c = λ o before.
+    let old = c.args.self.now.state in
+    let f = c.args.frame in
+    let s = g.F.Frames.seen c.args.frames.now in
+    let clock = c.clock-clock.result in
+    let e = next_entry old c.args.by (kind.Fix c.args.page f clock c.args.now) in
+    let seen : g.F.Frames.seen c.append.new.frames ≡ appended (visiting s f c.visit.result) e =
+    granted s (g.F.Frames.seen c.visit.new.self) (g.F.Frames.seen c.append.new.frames) f c.visit.result e c.requires.tied.none_owed c.visit.ensures.seen c.append.ensures.seen in
+    behind_on g.D.PageDisk.tells g.D.PageDisk.told g.D.PageDisk.space_pages o old c.append.new.self.state c.args.by (kind.Fix c.args.page f clock c.args.now) (g.F.Frames.seen c.append.new.frames) _
+    c.append.ensures.appended c.append.ensures.disk seen
+    (behind_fixed g.D.PageDisk.tells g.D.PageDisk.told g.D.PageDisk.space_pages o old.config old.instance old.history old.disk s c.args.by c.args.page f clock c.args.now c.visit.result before)

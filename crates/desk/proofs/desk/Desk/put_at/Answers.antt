@@ -2,10 +2,13 @@ use Rattle.std.proofs.Common.{◌≡◌, ◌∙◌, ℕ, List, length, ap, sym, 
 use Rattle.redo_mark.specs.Logs.{Holds}
 use Rattle.redo_mark.specs.Records.{head_of, sealed, record_of}
 use Rattle.trail.specs.declared.event.Entry.{Entry}
+use Rattle.frame_words.specs.Seen.{FramesSeen}
 use Rattle.desk.specs.Logged.{IsLogged, put_change}
-use Rattle.desk.proofs.Logging.{logged_later, length-put}
 use Rattle.desk.specs.Behind.{IsBehind}
-use Rattle.desk.proofs.Behind.{behind_refused}
+use Rattle.desk.specs.State.{State}
+use Rattle.desk.specs.Tied.{AreTied}
+use Rattle.desk.proofs.Changing.{refused_tied, refused_behind}
+use Rattle.desk.proofs.Logging.{logged_later, length-put}
 use Rattle.desk.proofs.desk.Desk.put_at.Goals as goal
 
 pub returns-in-Ok-append-clause-logged : goal.returns-in-Ok-append-clause-logged
@@ -24,13 +27,24 @@ returns-in-Ok-append-clause-logged g c = λ before.
     subst (λ (l : List ℕ). Holds seen (record_of (put_change c.args.page c.args.at l) span.start) span.start) (sym bytes) drafted in
     let at_start = subst (λ (n : ℕ). Holds seen (record_of (put_change c.args.page c.args.at c.in-Ok.bytes) n) n) start own in
     let rest = logged_later c.args.redo.now.seen seen c.args.self.now.state.history c.append.ensures.later before in
-    subst (λ (h : List Entry). IsLogged seen h) (sym done.history) (at_start, subst (λ d. IsLogged seen d.history) (sym c.reserve_put.ensures.same) rest)
+    subst (λ (h : List Entry). IsLogged seen h) (sym done.entry.history) (at_start, subst (λ (d : State g.row.D.Denot). IsLogged seen d.history) (sym c.room_for_put.ensures.same) rest)
 
 pub returns-in-Ok-append-clause-behind : goal.returns-in-Ok-append-clause-behind
 returns-in-Ok-append-clause-behind g c = λ o before.
-    c.change.ensures.behind o (subst (λ d. IsBehind g.D.PageDisk.tells g.D.PageDisk.told g.D.PageDisk.space_pages o d) (sym c.reserve_put.ensures.same) before)
+    c.change.ensures.behind o (subst (λ (d : State g.row.D.Denot). IsBehind g.D.PageDisk.tells g.D.PageDisk.told g.D.PageDisk.space_pages o d (g.F.Frames.seen c.args.frames.now)) (sym c.room_for_put.ensures.same) before)
+
+pub returns-in-Err-clause-tied : goal.returns-in-Err-clause-tied
+returns-in-Err-clause-tied g c =
+    let s : FramesSeen = g.F.Frames.seen c.args.frames.now in
+    let mid : State g.row.D.Denot = c.room_for_put.new.self.state in
+    let was : AreTied g.D.PageDisk.tells g.D.PageDisk.told g.D.PageDisk.space_pages s mid = subst (λ (x : State g.row.D.Denot). AreTied g.D.PageDisk.tells g.D.PageDisk.told g.D.PageDisk.space_pages s x) (sym c.room_for_put.ensures.same) c.requires.tied in
+    refused_tied g.D.PageDisk.tells g.D.PageDisk.told g.D.PageDisk.space_pages s (g.F.Frames.seen c.append-in-Err.new.frames) mid c.append-in-Err.new.self.state c.args.by _ _
+    c.append-in-Err.ensures.appended c.append-in-Err.ensures.disk c.append-in-Err.ensures.seen was
 
 pub returns-in-Err-clause-behind : goal.returns-in-Err-clause-behind
 returns-in-Err-clause-behind g c = λ o before.
-    let was = subst (λ d. IsBehind g.D.PageDisk.tells g.D.PageDisk.told g.D.PageDisk.space_pages o d) (sym c.reserve_put.ensures.same) before in
-    behind_refused g.D.PageDisk.tells g.D.PageDisk.told g.D.PageDisk.space_pages o c.reserve_put.new.self.state c.append-in-Err.new.self.state c.args.by _ _ c.append-in-Err.ensures.appended c.append-in-Err.ensures.disk was
+    let s : FramesSeen = g.F.Frames.seen c.args.frames.now in
+    let mid : State g.row.D.Denot = c.room_for_put.new.self.state in
+    let was : IsBehind g.D.PageDisk.tells g.D.PageDisk.told g.D.PageDisk.space_pages o mid s = subst (λ (x : State g.row.D.Denot). IsBehind g.D.PageDisk.tells g.D.PageDisk.told g.D.PageDisk.space_pages o x s) (sym c.room_for_put.ensures.same) before in
+    refused_behind g.D.PageDisk.tells g.D.PageDisk.told g.D.PageDisk.space_pages o s (g.F.Frames.seen c.append-in-Err.new.frames) mid c.append-in-Err.new.self.state c.args.by _ _
+    c.append-in-Err.ensures.appended c.append-in-Err.ensures.disk c.append-in-Err.ensures.seen was

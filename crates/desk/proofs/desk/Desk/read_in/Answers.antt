@@ -1,39 +1,81 @@
-use Rattle.std.proofs.Common.{◌≡◌, ◌<◌, ◌∙◌, ℕ, Some, length, length-set, ap, sym, subst, reverse, rules, get_or, vec_len}
-use Rattle.std.specs.HashMap.{get}
-use Rattle.std.proofs.lemmas.Result.{on_err_weaker}
-use Rattle.page_ids.specs.Same.{same_page}
-use Rattle.page_ids.specs.declared.ids.PageId.{PageId}
-use Rattle.trail.specs.History.{home}
-use Rattle.desk.specs.State.{Keeps}
-use Rattle.desk.proofs.Keeping.{sized_read, dirt_read, inside_same, set_again}
+use Rattle.std.proofs.Common.{◌≡◌, ◌<◌, ◌∙◌, Option, Some, IfSome, length, ap, sym, subst}
+use Rattle.std.proofs.lemmas.Result.{on_ok_weaker, on_err_weaker}
+use Rattle.page_ids.specs.Content.{Content}
+use Rattle.page_ids.specs.Layout.{IsPage}
+use Rattle.page_ids.specs.Size.{page_bytes}
+use Rattle.frame_words.specs.Rows.{laid_row}
+use Rattle.frame_words.specs.Seen.{FramesSeen, row_at, with_row}
+use Rattle.desk.specs.Behind.{IsBehind}
+use Rattle.desk.specs.Ledger.{IsVacant}
+use Rattle.desk.specs.Tied.{AreTied}
+use Rattle.desk.proofs.Behind.{made, behind_same}
+use Rattle.desk.proofs.Loading.{behind_laid}
+use Rattle.desk.proofs.Rows.{vacant_image}
+use Rattle.desk.proofs.Tying.{below_rows, relaid, laid_again, tied_same, tied_laid}
 use Rattle.desk.proofs.desk.Desk.read_in.Goals as goal
 
-pub invariant_of-self : goal.invariant_of-self
-invariant_of-self g c =
-    let s = c.self.inside in
-    let images = s.images.items in
+pub returns-clause-ok : goal.returns-clause-ok
+returns-clause-ok g c =
+    let s = g.F.Frames.seen c.args.frames.now in
     let f = c.args.frame in
-    let before = c.index_mut-image.result.now in
-    let after = c.read_page.new.image in
-    let below : f < length images = subst (λ d. f < length d.state.images) (sym c.self.view_is) c.requires.below in
-    let fresh : (q : PageId) → home (reverse s.history.items) q ≡ Some f → ⊥ = subst (λ d. (q : PageId) → home d.state.history q ≡ Some f → ⊥) (sym c.self.view_is) c.requires.fresh in
-    let here : before ≡ get_or images f before = search rules in
-    let sizes : g.D.PageDisk.page_size c.read_page.new.disk ≡ g.D.PageDisk.page_size s.disk = c.read_page.ensures.disk.sizes in
-    let N : ℕ → Type 0 = λ n. Keeps s.config (reverse s.history.items) (get same_page s.homes) s.free.items n s.clocks.items in (
-      subst N (sym (length-set images f after)) c.self.invariant.0,
-      sized_read _ _ images (vec_len s.buffer) (vec_len c.read_page.new.buffer) f before after sizes c.read_page.ensures.buffer c.read_page.ensures.image below here c.self.invariant.1,
-      c.self.invariant.2,
-      sizes ∙ c.self.invariant.3,
-      dirt_read (reverse s.history.items) images s.dirty.items f after fresh c.self.invariant.4,
-      inside_same _ _ (reverse s.history.items) c.read_page.ensures.disk.spaces_are c.self.invariant.5,
-    )
+    let now = c.read_page-read.new.image in
+    let inside = below_rows g.D.PageDisk.tells g.D.PageDisk.told g.D.PageDisk.space_pages s c.args.self.now.state f c.requires.tied c.requires.below in
+    let seen : g.F.Frames.seen c.lay.new.self ≡ with_row s f (laid_row (row_at s f) now) =
+    relaid s (g.F.Frames.seen c.lift-image.new.self) (g.F.Frames.seen c.lay.new.self) f now inside c.lift-image.ensures.seen c.lay.ensures.seen in
+    on_ok_weaker c.read_page-read.result (λ read. record {
+      content = now;
+      read = subst (λ k. IfSome (g.D.PageDisk.told k.state.disk c.args.page) (λ bytes. IsPage c.args.page bytes now)) c.self.view_is read;
+      seen = seen;
+    }) c.read_page-read.ensures.read
 
-pub returns-clause-images : goal.returns-clause-images
-returns-clause-images g c =
-    let images = c.self.inside.images.items in
+pub returns-clause-err : goal.returns-clause-err
+returns-clause-err g c =
+    let old = c.args.self.now.state in
+    let s = g.F.Frames.seen c.args.frames.now in
     let f = c.args.frame in
-    let before = c.index_mut-image.result.now in
-    let after = c.read_page.new.image in
-    let below : f < length images = subst (λ d. f < length d.state.images) (sym c.self.view_is) c.requires.below in
-    let here : before ≡ get_or images f before = search rules in
-    on_err_weaker c.read_page.result (λ kept. set_again images f before after below here kept ∙ ap (λ d. d.state.images) c.self.view_is) c.read_page.ensures.kept
+    let now = c.read_page-read.new.image in
+    let inside = below_rows g.D.PageDisk.tells g.D.PageDisk.told g.D.PageDisk.space_pages s old f c.requires.tied c.requires.below in
+    let seen : g.F.Frames.seen c.lay.new.self ≡ with_row s f (laid_row (row_at s f) now) =
+    relaid s (g.F.Frames.seen c.lift-image.new.self) (g.F.Frames.seen c.lay.new.self) f now inside c.lift-image.ensures.seen c.lay.ensures.seen in
+    let there = vacant_image (page_bytes old.config.page) old.config.frames old.history (row_at s f) f (c.requires.tied.rows f inside) c.requires.vacant c.requires.below in
+    let was : c.lift-image.result ≡ there.0 = subst (λ (i : Option (Option Content)). IfSome i (λ told. IfSome told (λ content. c.lift-image.result ≡ content))) there.1 c.lift-image.ensures.image in
+    on_err_weaker c.read_page-read.result (λ kept. seen ∙ laid_again s f now (there.1 ∙ ap (λ (x : Content). Some (Some x)) (sym (kept ∙ was)))) c.read_page-read.ensures.kept
+
+pub returns-clause-tied : goal.returns-clause-tied
+returns-clause-tied g c =
+    let x = c.self.inside in
+    let old = c.args.self.now.state in
+    let s = g.F.Frames.seen c.args.frames.now in
+    let f = c.args.frame in
+    let now = c.read_page-read.new.image in
+    let disk = c.read_page-read.new.disk in
+    let inside = below_rows g.D.PageDisk.tells g.D.PageDisk.told g.D.PageDisk.space_pages s old f c.requires.tied c.requires.below in
+    let seen : g.F.Frames.seen c.lay.new.self ≡ with_row s f (laid_row (row_at s f) now) =
+    relaid s (g.F.Frames.seen c.lift-image.new.self) (g.F.Frames.seen c.lay.new.self) f now inside c.lift-image.ensures.seen c.lay.ensures.seen in
+    let there = vacant_image (page_bytes old.config.page) old.config.frames old.history (row_at s f) f (c.requires.tied.rows f inside) c.requires.vacant c.requires.below in
+    let was : c.lift-image.result ≡ there.0 = subst (λ (i : Option (Option Content)). IfSome i (λ told. IfSome told (λ content. c.lift-image.result ≡ content))) there.1 c.lift-image.ensures.image in
+    let fits : length now.bytes ≡ page_bytes old.config.page = c.read_page-read.ensures.image ∙ ap (λ (y : Content). length y.bytes) was ∙ there.2 in
+    let whole = subst (λ k. AreTied g.D.PageDisk.tells g.D.PageDisk.told g.D.PageDisk.space_pages s k.state) (sym c.self.view_is) c.requires.tied in
+    let size = subst (λ k. length now.bytes ≡ page_bytes k.state.config.page) (sym c.self.view_is) fits in
+    let below = subst (λ k. f < k.state.config.frames) (sym c.self.view_is) c.requires.below in
+    let vacant = subst (λ k. IsVacant k.state.history f) (sym c.self.view_is) c.requires.vacant in
+    let desk = made x.lists.config x.instance x.lists.history disk in
+    subst (λ (y : FramesSeen). AreTied g.D.PageDisk.tells g.D.PageDisk.told g.D.PageDisk.space_pages y desk) (sym seen) (tied_laid g.D.PageDisk.tells g.D.PageDisk.told g.D.PageDisk.space_pages desk s f now below vacant size
+    (tied_same g.D.PageDisk.tells g.D.PageDisk.told g.D.PageDisk.space_pages g.D.PageDisk.page_size g.D.PageDisk.fault_count x.lists.config x.instance x.lists.history x.disk disk s c.read_page-read.ensures.disk whole))
+
+pub returns-clause-behind : goal.returns-clause-behind
+returns-clause-behind g c = λ o before.
+    let x = c.self.inside in
+    let old = c.args.self.now.state in
+    let s = g.F.Frames.seen c.args.frames.now in
+    let f = c.args.frame in
+    let now = c.read_page-read.new.image in
+    let disk = c.read_page-read.new.disk in
+    let inside = below_rows g.D.PageDisk.tells g.D.PageDisk.told g.D.PageDisk.space_pages s old f c.requires.tied c.requires.below in
+    let seen : g.F.Frames.seen c.lay.new.self ≡ with_row s f (laid_row (row_at s f) now) =
+    relaid s (g.F.Frames.seen c.lift-image.new.self) (g.F.Frames.seen c.lay.new.self) f now inside c.lift-image.ensures.seen c.lay.ensures.seen in
+    let whole = subst (λ k. IsBehind g.D.PageDisk.tells g.D.PageDisk.told g.D.PageDisk.space_pages o k.state s) (sym c.self.view_is) before in
+    let vacant = subst (λ k. IsVacant k.state.history f) (sym c.self.view_is) c.requires.vacant in
+    let desk = made x.lists.config x.instance x.lists.history disk in
+    subst (λ (y : FramesSeen). IsBehind g.D.PageDisk.tells g.D.PageDisk.told g.D.PageDisk.space_pages o desk y) (sym seen) (behind_laid g.D.PageDisk.tells g.D.PageDisk.told g.D.PageDisk.space_pages o desk s f (laid_row (row_at s f) now) vacant
+    (behind_same g.D.PageDisk.tells g.D.PageDisk.told g.D.PageDisk.space_pages o g.D.PageDisk.page_size g.D.PageDisk.fault_count x.lists.config x.instance x.lists.history x.disk disk s c.read_page-read.ensures.disk whole))

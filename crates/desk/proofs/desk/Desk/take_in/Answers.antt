@@ -1,41 +1,60 @@
-use Rattle.std.proofs.Common.{◌≡◌, ℕ, ◌+◌, ◌≤◌, ◌∷◌, List, None, Some, length, set, rules, arith, subst, sym, ap, ◌∙◌, reverse}
-use Rattle.std.specs.HashMap.{get, spare, Updates}
-use Rattle.std.proofs.lemmas.List.{length-reverse}
-use Rattle.std.proofs.lemmas.Grind.{common_steps}
-use Rattle.page_ids.specs.Same.{same_page}
-use Rattle.trail.specs.declared.event.Entry.{Entry}
+use Rattle.std.proofs.Common.{◌≡◌, ◌+◌, ◌<◌, ◌^◌, length, arith, subst, sym, ap, ◌∙◌}
+use Rattle.trail.specs.Places.{mark}
 use Rattle.trail.specs.declared.event.Kind.TheVariants as kind
-use Rattle.desk.specs.State.{Keeps, KeepsDirty, AreInside}
-use Rattle.trail.specs.History.{home}
-use Rattle.page_disk.specs.Disks.{IsInside}
-use Rattle.desk.proofs.Keeping.{keeps_load, dirt_load, inside_load, reverse-push, entry_of, front_rest}
+use Rattle.frame_words.specs.Conditions.{MayPublish}
+use Rattle.frame_words.specs.Seen.{FramesSeen}
+use Rattle.desk.specs.Steps.{next_entry}
+use Rattle.desk.proofs.Loading.{loaded, behind_on, behind_loaded}
+use Rattle.desk.proofs.Tying.{below_rows, may_publish, published, tied_on, tied_loaded}
 use Rattle.desk.proofs.desk.Desk.take_in.Goals as goal
 
-pub invariant_of-self : goal.invariant_of-self
-invariant_of-self g c =
-    let s = c.self.inside in
-    let f = c.in-Some.frame in
-    let items = s.history.items in
-    let rest = c.pop_front.new.self.items in
-    let place = s.config.first + c.len.result + 1 in
-    let entry = entry_of place c.args.by.pass c.args.by.number (kind.Load c.args.page f) in
-    let grown : reverse c.push_kept.new.items.items ≡ entry ∷ reverse items = ap reverse c.push_kept.ensures.items ∙ reverse-push items entry in
-    let next : place ≡ s.config.first + length (reverse items) + 1 = rw length-reverse (grind (arith, common_steps)) in
-    let front : s.free.items ≡ f ∷ rest = front_rest s.free.items rest f (search rules) (search rules) c.pop_front.ensures.rest in
-    let updated : Updates same_page s.homes c.insert.new.self c.args.page (Some f) = search rules in
-    let absent : home (reverse items) c.args.page ≡ None = ap (λ d. home d.state.history c.args.page) c.self.view_is ∙ c.requires.absent in
-    let within : IsInside (g.D.PageDisk.space_pages s.disk) c.args.page = subst (λ d. IsInside (g.D.PageDisk.space_pages d.state.disk) c.args.page) (sym c.self.view_is) c.requires.inside in
-    let S : List Entry → Type 0 = λ h. AreInside (g.D.PageDisk.space_pages s.disk) h in
-    let E : List Entry → Type 0 = λ h. KeepsDirty h s.images.items s.dirty.items in
-    let P : List Entry → Type 0 = λ h. Keeps s.config h (get same_page c.insert.new.self) rest (length s.images.items) (set s.clocks.items f place) in
-    let Q : List ℕ → Type 0 = λ fr. Keeps s.config (reverse items) (get same_page s.homes) fr (length s.images.items) s.clocks.items in (
-      subst P (sym grown) (keeps_load s.config (reverse items) _ _ f rest _ _ place _ _ c.args.page next (subst Q front c.self.invariant.0) updated.0),
-      c.self.invariant.1,
-      fits s.free.items rest f (spare s.homes) (spare c.insert.new.self) front c.self.invariant.2 (search rules),
-      c.self.invariant.3,
-      subst E (sym grown) (dirt_load _ _ _ _ _ _ c.args.page f absent c.self.invariant.4),
-      subst S (sym grown) (inside_load _ (reverse items) place c.args.by.pass c.args.by.number c.args.page f within c.self.invariant.5),
-    )
-  where
-    fits : (l more : List ℕ) (f a b : ℕ) → l ≡ f ∷ more → length l ≤ a → a ≤ b + 1 → length more ≤ b
-    fits l more f a b e le lt = let n : length l ≡ length (f ∷ more) = ap (length {A = ℕ}) e in omega (arith, n, le, lt)
+pub publish-requires : goal.publish-requires
+publish-requires g c =
+    let old = c.args.self.now.state in
+    let s = g.F.Frames.seen c.args.frames.now in
+    let place : c.mark-place.result + 1 ≡ mark old.config.first old.history + 1 =
+    ap (λ m. m + 1) c.mark-place.ensures.mark ∙ ap (λ k. mark k.state.config.first k.state.history + 1) c.self.view_is in
+    let count : c.mark-place.result ≡ old.config.first + length old.history = c.mark-place.ensures.count ∙ ap (λ k. k.state.config.first + length k.state.history) c.self.view_is in
+    let early : mark old.config.first old.history + 1 < 2 ^ 48 = subst (λ n. n < 2 ^ 48) place (omega (arith, count, c.requires.places)) in
+    let image = c.requires.image in
+    record {
+      may = subst (λ n. MayPublish (g.F.Frames.seen c.append.new.frames) c.args.frame c.args.page n) (sym place)
+          (subst (λ (x : FramesSeen). MayPublish x c.args.frame c.args.page (mark old.config.first old.history + 1)) (sym c.append.ensures.seen)
+          (may_publish g.D.PageDisk.tells g.D.PageDisk.told g.D.PageDisk.space_pages old.config old.instance old.history old.disk s c.args.by c.args.page c.args.frame image.0
+          c.requires.below c.requires.vacant c.requires.clean c.requires.inside early image.1.image image.1.read c.requires.tied));
+    }
+
+pub returns-clause-tied : goal.returns-clause-tied
+returns-clause-tied g c =
+    let old = c.args.self.now.state in
+    let f = c.args.frame in
+    let s = g.F.Frames.seen c.args.frames.now in
+    let e = next_entry old c.args.by (kind.Load c.args.page f) in
+    let place : c.mark-place.result + 1 ≡ mark old.config.first old.history + 1 =
+    ap (λ m. m + 1) c.mark-place.ensures.mark ∙ ap (λ k. mark k.state.config.first k.state.history + 1) c.self.view_is in
+    let seen : g.F.Frames.seen c.publish.new.self ≡ loaded s e f c.args.page (mark old.config.first old.history + 1) =
+    published s (g.F.Frames.seen c.append.new.frames) (g.F.Frames.seen c.publish.new.self) old.config.first old.history c.args.by c.args.page f (c.mark-place.result + 1)
+    c.append.ensures.seen c.publish.ensures.seen place in
+    let image = c.requires.image in
+    tied_on g.D.PageDisk.tells g.D.PageDisk.told g.D.PageDisk.space_pages old c.append.new.self.state c.args.by (kind.Load c.args.page f) (g.F.Frames.seen c.publish.new.self) _
+    c.append.ensures.appended c.append.ensures.disk seen
+    (tied_loaded g.D.PageDisk.tells g.D.PageDisk.told g.D.PageDisk.space_pages old.config old.instance old.history old.disk s c.args.by c.args.page f image.0
+    c.requires.below c.requires.vacant c.requires.absent c.requires.clean c.requires.inside c.requires.caller.own image.1.image image.1.read c.requires.tied)
+
+pub returns-clause-behind : goal.returns-clause-behind
+returns-clause-behind g c = λ o based before.
+    let old = c.args.self.now.state in
+    let f = c.args.frame in
+    let s = g.F.Frames.seen c.args.frames.now in
+    let e = next_entry old c.args.by (kind.Load c.args.page f) in
+    let place : c.mark-place.result + 1 ≡ mark old.config.first old.history + 1 =
+    ap (λ m. m + 1) c.mark-place.ensures.mark ∙ ap (λ k. mark k.state.config.first k.state.history + 1) c.self.view_is in
+    let seen : g.F.Frames.seen c.publish.new.self ≡ loaded s e f c.args.page (mark old.config.first old.history + 1) =
+    published s (g.F.Frames.seen c.append.new.frames) (g.F.Frames.seen c.publish.new.self) old.config.first old.history c.args.by c.args.page f (c.mark-place.result + 1)
+    c.append.ensures.seen c.publish.ensures.seen place in
+    let image = c.requires.image in
+    let inside = below_rows g.D.PageDisk.tells g.D.PageDisk.told g.D.PageDisk.space_pages s old f c.requires.tied c.requires.below in
+    behind_on g.D.PageDisk.tells g.D.PageDisk.told g.D.PageDisk.space_pages o old c.append.new.self.state c.args.by (kind.Load c.args.page f) (g.F.Frames.seen c.publish.new.self) _
+    c.append.ensures.appended c.append.ensures.disk seen
+    (behind_loaded g.D.PageDisk.tells g.D.PageDisk.told g.D.PageDisk.space_pages o old.config old.instance old.history old.disk s c.args.by c.args.page f image.0
+    inside c.requires.vacant c.requires.clean c.requires.inside image.1.image image.1.read (λ none. (c.requires.tied.shared f inside none).1) based before)

@@ -5,6 +5,7 @@ use Rattle.trail.specs.declared.event.Entry.{Entry}
 use Rattle.trail.specs.Dirt.{dirty}
 use Rattle.desk.specs.Changes.{WritesBack, IsWriteBack}
 use Rattle.desk.proofs.Cleaning.{writes_more, writes_count, later_same, later_on, leaves_same, leaves_on, fault_wider}
+use Rattle.desk.proofs.Changing.{alone_rows}
 use Rattle.desk.proofs.Dirt.{length-dirty}
 use Rattle.desk.proofs.desk.Desk.write_back_all.Goals as goal
 
@@ -13,6 +14,9 @@ loop-written-init g c = record {
   writes = refl;
   room = omega arith;
   leaves = leaves_same g.D.PageDisk.page_size g.D.PageDisk.tells g.D.PageDisk.space_pages g.D.PageDisk.fault_count c.args.self.now.state;
+  rows = refl;
+  tied = c.requires.tied;
+  turn = c.requires.turn;
   logged = λ x. x;
   known = c.requires.known;
   later = later_same c.args.redo.now.seen;
@@ -42,7 +46,11 @@ write_back-requires-clause-room g c κs within =
     omega (arith, one, c.loop-written.invariant.room)
 
 pub write_back-requires-clause-known : goal.write_back-requires-clause-known
-write_back-requires-clause-known g c κs within = c.loop-written.invariant.known
+write_back-requires-clause-known g c κs within = (c.in-Some.ensures.logged, c.loop-written.invariant.known)
+
+pub write_back-requires-clause-alone : goal.write_back-requires-clause-alone
+write_back-requires-clause-alone g c κs within =
+    alone_rows (g.F.Frames.seen c.args.frames.now) (g.F.Frames.seen c.loop-written.frames) c.loop-written.invariant.rows c.requires.alone
 
 pub returns-in-Err-clause-err : goal.returns-in-Err-clause-err
 returns-in-Err-clause-err g c =
@@ -82,7 +90,7 @@ returns-in_default-clause-ok g c =
     let n = c.loop-written.written in
     let count = writes_count c.args.self.now.state.config.first c.args.by n old c.loop-written.self.state.history c.loop-written.invariant.writes in
     let below : n < c.args.most = search rules in
-    let clean : dirty c.loop-written.self.state.history ≡ [] = c.oldest.ensures.none (search rules) in
+    let clean : dirty c.loop-written.self.state.history ≡ [] = c.first_dirty.ensures.none (search rules) in
     (c.loop-written.invariant.writes, omega (arith, below), omega (arith, count.0), inr clean, c.loop-written.invariant.room)
 
 pub loop-written-preserved : goal.loop-written-preserved
@@ -98,6 +106,9 @@ loop-written-preserved g c =
       writes = writes_more first c.args.by c.loop-written.written old mid new c.loop-written.invariant.writes wrote;
       room = omega (arith, c.loop-written.invariant.room, c.write_back.ensures.room);
       leaves = leaves_on g.D.PageDisk.page_size g.D.PageDisk.tells g.D.PageDisk.space_pages g.D.PageDisk.fault_count c.args.self.now.state c.loop-written.self.state c.write_back.new.self.state c.loop-written.invariant.leaves c.write_back.ensures.desk;
+      rows = c.write_back.ensures.rows ∙ c.loop-written.invariant.rows;
+      tied = c.write_back.ensures.tied;
+      turn = c.write_back.ensures.turn;
       logged = λ before. c.write_back.ensures.logged (c.loop-written.invariant.logged before);
       known = c.write_back.ensures.known;
       later = later_on c.args.redo.now.seen c.loop-written.redo.seen c.write_back.new.redo.seen c.loop-written.invariant.later c.write_back.ensures.later;

@@ -5,6 +5,7 @@ use Rattle.desk.specs.Base.{Opened}
 use Rattle.desk.specs.Behind.{IsBehind}
 use Rattle.desk.specs.Changes.{WritesBack, LeavesDesk}
 use Rattle.desk.specs.Logged.{IsLogged}
+use Rattle.desk.specs.Tied.{AreTied, HasTurn}
 use Rattle.desk.proofs.desk.Desk.write_back_all.Given as goal
 
 abbrev pub invariant-loop-written : goal.invariant-loop-written
@@ -12,10 +13,13 @@ invariant-loop-written g l = record {
   writes : WritesBack l.fn.self.state.config.first l.by l.written l.fn.self.state.history l.self.state.history;
   room : l.fn.self.room ≤ l.self.room + l.written;
   leaves : LeavesDesk g.D.PageDisk.page_size g.D.PageDisk.tells g.D.PageDisk.space_pages g.D.PageDisk.fault_count l.fn.self.state l.self.state;
+  rows : (g.F.Frames.seen l.frames).rows ≡ (g.F.Frames.seen l.fn.frames).rows;
+  tied : AreTied g.D.PageDisk.tells g.D.PageDisk.told g.D.PageDisk.space_pages (g.F.Frames.seen l.frames) l.self.state;
+  turn : HasTurn (g.F.Frames.seen l.frames) l.by;
   logged : IsLogged l.fn.redo.seen l.fn.self.state.history → IsLogged l.redo.seen l.self.state.history;
   known : log_end l.self.state.history ≤ l.redo.seen.end;
   later : IsLater l.fn.redo.seen l.redo.seen;
   opening : l.redo.opening ≡ l.fn.redo.opening;
   kept : IsKept l.fn.redo.seen (g.R.RedoDisk.told l.fn.redo.disk) → IsKept l.redo.seen (g.R.RedoDisk.told l.redo.disk);
-  behind : (o : Opened) → IsBehind g.D.PageDisk.tells g.D.PageDisk.told g.D.PageDisk.space_pages o l.fn.self.state → IsBehind g.D.PageDisk.tells g.D.PageDisk.told g.D.PageDisk.space_pages o l.self.state;
+  behind : (o : Opened) → IsBehind g.D.PageDisk.tells g.D.PageDisk.told g.D.PageDisk.space_pages o l.fn.self.state (g.F.Frames.seen l.fn.frames) → IsBehind g.D.PageDisk.tells g.D.PageDisk.told g.D.PageDisk.space_pages o l.self.state (g.F.Frames.seen l.frames);
 }

@@ -12,8 +12,8 @@ use Rattle.script_run.proofs.worker.Worker.do_all.Given as goal
 abbrev pub invariant-loop-command : goal.invariant-loop-command
 invariant-loop-command g l =
     let sense = senses g.D.PageDisk.page_size g.D.PageDisk.tells g.D.PageDisk.told g.D.PageDisk.space_pages g.D.PageDisk.fault_count in
-    Along sense l.command-index l.fn.desk.state l.desk.state l.fn.redo.seen l.redo.seen (working l.fn.self) (working l.self)
+    Along sense l.command-index l.fn.desk.state l.desk.state l.fn.frames l.frames l.fn.redo.seen l.redo.seen (working l.fn.self) (working l.self)
     × AllByRecursion (IsInRange l.fn.desk.state.config.page) (drop l.command-index l.commands)
-    × ((o : Opening) (start : Start) (past : List Event) → SoFar sense o start l.fn.desk.state l.fn.redo.seen (working l.fn.self) past [] → StandsBehind sense o start l.fn.desk.state
+    × ((o : Opening) (start : Start) (past : List Event) → SoFar sense o start l.fn.desk.state l.fn.redo.seen (working l.fn.self) past [] → StandsBehind sense o start l.fn.desk.state l.fn.frames
     → Progress sense o start l.desk.state l.redo.seen (working l.self) past l.commands (drop l.command-index l.commands))
     × (l.redo.opening ≡ l.fn.redo.opening)

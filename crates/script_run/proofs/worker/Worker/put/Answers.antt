@@ -10,12 +10,18 @@ use Rattle.script_text.specs.declared.script.Command.TheVariants as command
 use Rattle.script_run.specs.Work.{Working, Does, noted_at, senses}
 use Rattle.script_run.specs.Workers.{working}
 use Rattle.script_run.proofs.Growing.{me}
+use Rattle.script_run.proofs.Framing.{all_told}
 use Rattle.script_run.proofs.Along.{along_put, along_spent, held_resident}
 use Rattle.script_run.proofs.Doing.{does_unheld_put, does_put_held, does_spent_held, on_ok}
 use Rattle.script_run.proofs.worker.Worker.put.Goals as goal
 
 pub put_at-requires-clause-resident : goal.put_at-requires-clause-resident
-put_at-requires-clause-resident g c κs within = held_resident c.args.desk.now.state.history (reverse c.args.self.now.fixed.items) c.args.page c.requires.housed (search rules)
+put_at-requires-clause-resident g c κs within = held_resident c.args.desk.now.state.history (reverse c.args.self.now.fixed.items) c.args.page c.requires.ready.housed (search rules)
+
+pub put_at-requires-clause-alone : goal.put_at-requires-clause-alone
+put_at-requires-clause-alone g c κs within =
+    let sense = senses g.D.PageDisk.page_size g.D.PageDisk.tells g.D.PageDisk.told g.D.PageDisk.space_pages g.D.PageDisk.fault_count in
+    all_told sense c.args.desk.now.state c.args.frames.now (reverse c.args.self.now.fixed.items) c.requires.ready
 
 pub returns-then-is_none-clause-done : goal.returns-then-is_none-clause-done
 returns-then-is_none-clause-done g c =
@@ -31,8 +37,8 @@ returns-then-is_none-clause-done g c =
 pub returns-in-Ok-clause-along : goal.returns-in-Ok-clause-along
 returns-in-Ok-clause-along g c =
     let sense = senses g.D.PageDisk.page_size g.D.PageDisk.tells g.D.PageDisk.told g.D.PageDisk.space_pages g.D.PageDisk.fault_count in
-    along_put sense c.args.desk.now.state c.put_at.new.self.state c.args.redo.now.seen c.put_at.new.redo.seen (working c.args.self.now) c.args.page c.args.at c.args.bytes.now
-    c.in-Ok.field-0 c.in-Ok.ensures.done c.put_at.ensures.behind c.put_at.ensures.later c.put_at.ensures.known
+    along_put sense c.args.desk.now.state c.put_at.new.self.state c.args.frames.now c.put_at.new.frames c.args.redo.now.seen c.put_at.new.redo.seen (working c.args.self.now) c.args.page c.args.at c.args.bytes.now
+    c.in-Ok.field-0 c.in-Ok.ensures.done c.put_at.ensures.behind c.put_at.ensures.tied c.put_at.ensures.later c.put_at.ensures.known
 
 pub returns-in-Ok-clause-done : goal.returns-in-Ok-clause-done
 returns-in-Ok-clause-done g c =
@@ -49,8 +55,8 @@ returns-in-Err-LogSpent-clause-along g c =
     let w : Working = working c.args.self.now in
     let R : PutErr → Type 0 = λ e. IsPutRefusal c.args.desk.now.state c.put_at.new.self.state (me w) c.args.page c.args.at c.args.bytes.now c.args.redo.now.seen.end c.put_at.new.redo.seen.end e in
     let spent = subst R c.in-Err-LogSpent.field-0-is c.in-Err-LogSpent.ensures.refused in
-    along_spent sense c.args.desk.now.state c.put_at.new.self.state c.args.redo.now.seen c.put_at.new.redo.seen w c.args.page c.args.at c.args.bytes.now
-    _ spent c.put_at.ensures.behind c.put_at.ensures.later c.put_at.ensures.known
+    along_spent sense c.args.desk.now.state c.put_at.new.self.state c.args.frames.now c.put_at.new.frames c.args.redo.now.seen c.put_at.new.redo.seen w c.args.page c.args.at c.args.bytes.now
+    _ spent c.in-Err-LogSpent.ensures.unmoved c.put_at.ensures.behind c.put_at.ensures.tied c.put_at.ensures.later c.put_at.ensures.known
 
 pub returns-in-Err-LogSpent-clause-done : goal.returns-in-Err-LogSpent-clause-done
 returns-in-Err-LogSpent-clause-done g c =

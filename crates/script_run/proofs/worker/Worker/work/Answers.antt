@@ -4,6 +4,9 @@ use Rattle.script_run.proofs.Doing.{on_ok}
 use Rattle.script_run.proofs.Progress.{ending_start}
 use Rattle.script_run.proofs.worker.Worker.work.Goals as goal
 
+pub returns-clause-behind : goal.returns-clause-behind
+returns-clause-behind g c = on_ok c.give_back_all.result _ _ (λ f o was. f o (c.in_ok-do_all.ensures.along.behind o was)) c.give_back_all.ensures.behind
+
 pub returns-clause-done : goal.returns-clause-done
 returns-clause-done g c =
     let sense = senses g.D.PageDisk.page_size g.D.PageDisk.tells g.D.PageDisk.told g.D.PageDisk.space_pages g.D.PageDisk.fault_count in

@@ -1,0 +1,23 @@
+use Rattle.trail.specs.declared.event.Call.TheVariants as call
+use Rattle.trail.specs.declared.event.Kind.TheVariants as kind
+use Rattle.desk.proofs.Loading.{behind_on, behind_refused}
+use Rattle.desk.proofs.Tying.{tied_on, tied_refused}
+use Rattle.desk.proofs.desk.Desk.refuse.Goals as goal
+
+pub returns-clause-tied : goal.returns-clause-tied
+returns-clause-tied g c =
+    let old = c.args.self.now.state in
+    let asked = call.Fix c.args.page c.args.now in
+    let s = g.F.Frames.seen c.args.frames.now in
+    tied_on g.D.PageDisk.tells g.D.PageDisk.told g.D.PageDisk.space_pages old c.append.new.self.state c.args.by (kind.Refused asked c.args.cause) (g.F.Frames.seen c.append.new.frames) _
+    c.append.ensures.appended c.append.ensures.disk c.append.ensures.seen
+    (tied_refused g.D.PageDisk.tells g.D.PageDisk.told g.D.PageDisk.space_pages old.config old.instance old.history old.disk s c.args.by asked c.args.cause c.requires.tied)
+
+pub returns-clause-behind : goal.returns-clause-behind
+returns-clause-behind g c = λ o before.
+    let old = c.args.self.now.state in
+    let asked = call.Fix c.args.page c.args.now in
+    let s = g.F.Frames.seen c.args.frames.now in
+    behind_on g.D.PageDisk.tells g.D.PageDisk.told g.D.PageDisk.space_pages o old c.append.new.self.state c.args.by (kind.Refused asked c.args.cause) (g.F.Frames.seen c.append.new.frames) _
+    c.append.ensures.appended c.append.ensures.disk c.append.ensures.seen
+    (behind_refused g.D.PageDisk.tells g.D.PageDisk.told g.D.PageDisk.space_pages o old.config old.instance old.history old.disk s c.args.by asked c.args.cause before)

@@ -1,0 +1,5 @@
+use Rattle.desk.proofs.Trials.{fix_few}
+use Rattle.desk.proofs.flush_tests.fix.Goals as goal
+
+pub returns-clause-few : goal.returns-clause-few
+returns-clause-few g c = fix_few g.D.PageDisk.told _ _ _ _ _ _ _ c.args.number c.fix_at.result c.fix_at.ensures.granted c.fix_at.ensures.unmoved c.requires.few.1

@@ -1,0 +1,6 @@
+pub mod Rows
+pub mod Seen
+pub mod Appends
+pub mod Conditions
+pub mod Plain
+pub mod Telling
