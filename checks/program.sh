@@ -170,6 +170,16 @@ $'trail 0 2 0
 E 1 1.1 refused fix 0:64 1 NoSuchPage 64
 E 2 0.1 clean 0 -
 '
+    trail_is 'more pages than frames, all of them behind the last' \
+"$thread"$'fix 0:64 1\nfix 0:65 2\nfix 0:66 3\nfix 0:67 4\nfix 0:68 5\n' 1 \
+$'trail 0 6 0
+E 1 1.1 refused fix 0:64 1 NoSuchPage 64
+E 2 1.2 refused fix 0:65 2 NoSuchPage 64
+E 3 1.3 refused fix 0:66 3 NoSuchPage 64
+E 4 1.4 refused fix 0:67 4 NoSuchPage 64
+E 5 1.5 refused fix 0:68 5 NoSuchPage 64
+E 6 0.1 clean 0 -
+'
     trail_is 'a page of another space' "$thread"$'fix 3:0 1\nread 3:0 38 4\nunfix 3:0\n' 1 \
 $'trail 0 2 2
 E 1 1.1 refused fix 3:0 1 NoSuchPage 0
@@ -187,7 +197,7 @@ E 3 0.1 clean 0 -
 ' ''
 }
 
-# Page 7 and 2 of the tablespace: number at 4, LSN at 16, space at 34, body from 38 on, low half of the LSN in the last four bytes.
+# Pages 2 and 7 of the tablespace: number at 4, LSN at 16, space at 34, body from 38 on, low half of the LSN in the last four bytes.
 pages() {
     local at=$((7 * 4096))
     blank_files
@@ -484,6 +494,91 @@ R 3 1.4 unfixed 0:1 0 1
 E 4 0.1 write 0:1 8215 8215
 E 5 0.1 clean 1 -
 ' ''
+    blank_files
+    run "$(cat "$top/examples/victims.pool")"
+    hex want/log 0 '01 00000000 00000000 0026 0001 01 0000000000002016'
+    stamp want/space 4096 00000000 0 0000000000002016
+    hex want/space 38 01
+    expect 'examples/victims.pool' 0 \
+$'trail 0 17 6
+E 1 1.1 load 0:0 0
+E 2 1.1 fix 0:0 0 1 1
+E 3 1.2 put 0:0 38 01 8192 8214
+R 3 1.3 unfixed 0:0 0 1
+E 4 1.4 load 0:1 1
+E 5 1.4 fix 0:1 1 4 1
+R 5 1.5 unfixed 0:1 1 4
+E 6 1.6 load 0:2 2
+E 7 1.6 fix 0:2 2 6 1
+E 8 1.7 load 0:3 3
+E 9 1.7 fix 0:3 3 8 1
+E 10 1.8 evict 0:1 1 -
+E 11 1.8 load 0:4 1
+E 12 1.8 fix 0:4 1 11 2
+E 13 1.9 write 0:0 8214 8214
+E 14 1.9 evict 0:0 0 1=11/R/1,2=6/R/1,3=8/R/1
+E 15 1.9 load 0:5 0
+E 16 1.9 fix 0:5 0 15 3
+R 16 1.10 unfixed 0:5 0 9
+R 16 1.11 unfixed 0:4 1 8
+R 16 1.12 unfixed 0:3 3 7
+R 16 1.13 unfixed 0:2 2 6
+E 17 0.1 clean 0 -
+' ''
+}
+
+# Pages that take turns in the frames.
+victims() {
+    blank_files
+    trail_is 'four fixed frames' "$thread"$'fix 0:0 1\nfix 0:1 1\nfix 0:2 1\nfix 0:3 1\nfix 0:4 7\nunfix 0:0\nfix 0:4 8\n' 1 \
+$'trail 0 13 5
+E 1 1.1 load 0:0 0
+E 2 1.1 fix 0:0 0 1 1
+E 3 1.2 load 0:1 1
+E 4 1.2 fix 0:1 1 3 1
+E 5 1.3 load 0:2 2
+E 6 1.3 fix 0:2 2 5 1
+E 7 1.4 load 0:3 3
+E 8 1.4 fix 0:3 3 7 1
+E 9 1.5 refused fix 0:4 7 AllFixed 0=1/R/1,1=3/R/1,2=5/R/1,3=7/R/1
+R 9 1.6 unfixed 0:0 0 1
+E 10 1.7 evict 0:0 0 -
+E 11 1.7 load 0:4 0
+E 12 1.7 fix 0:4 0 11 8
+R 12 1.8 unfixed 0:4 0 7
+R 12 1.9 unfixed 0:3 3 4
+R 12 1.10 unfixed 0:2 2 3
+R 12 1.11 unfixed 0:1 1 2
+E 13 0.1 clean 0 -
+'
+    trail_is 'one frame in turn' $'page 4096\nframes 1\nsize 4096\nmax 1\nthread 1\nfix 0:0 1\nunfix 0:0\nfix 0:1 1\nunfix 0:1\nfix 0:0 1\nunfix 0:0\n' 0 \
+$'trail 0 9 3
+E 1 1.1 load 0:0 0
+E 2 1.1 fix 0:0 0 1 1
+R 2 1.2 unfixed 0:0 0 1
+E 3 1.3 evict 0:0 0 -
+E 4 1.3 load 0:1 0
+E 5 1.3 fix 0:1 0 4 1
+R 5 1.4 unfixed 0:1 0 3
+E 6 1.5 evict 0:1 0 -
+E 7 1.5 load 0:0 0
+E 8 1.5 fix 0:0 0 7 1
+R 8 1.6 unfixed 0:0 0 5
+E 9 0.1 clean 0 -
+'
+    put case/space $((5 * 4096 + 4)) '\0\0\0\6'
+    trail_is 'a page that leaves for one that is none' $'page 4096\nframes 1\nsize 4096\nmax 1\nthread 1\nfix 0:0 1\nunfix 0:0\nfix 0:5 1\nfix 0:1 2\n' 1 \
+$'trail 0 7 2
+E 1 1.1 load 0:0 0
+E 2 1.1 fix 0:0 0 1 1
+R 2 1.2 unfixed 0:0 0 1
+E 3 1.3 evict 0:0 0 -
+E 4 1.3 refused fix 0:5 1 BadPage Number 6
+E 5 1.4 load 0:1 0
+E 6 1.4 fix 0:1 0 5 2
+R 6 1.5 unfixed 0:1 0 4
+E 7 0.1 clean 0 -
+'
 }
 
 # comments COUNT: so many bytes of comment lines, each of 64 bytes, the last cut short.
@@ -491,6 +586,27 @@ comments() {
     local line
     printf -v line '#%62s\n' ''
     yes "${line%$'\n'}" | head -c "$1"
+}
+
+# unfixes COUNT: a script of so many calls, each of which is refused; the first stands on line 6.
+unfixes() {
+    printf %s "$thread"
+    yes 'unfix 0:0' | head -n "$1"
+}
+
+# refusals COUNT: the trail of such a script.
+refusals() {
+    printf 'trail 0 1 %s\n' "$1"
+    seq -f 'R 0 1.%.0f refused unfix 0:0 Unheld' "$1"
+    printf 'E 1 0.1 clean 0 -\n'
+}
+
+many_calls() {
+    blank_files
+    trail_is '65 calls' "$(unfixes 65)" 1 "$(refusals 65)"$'\n'
+    trail_is 'as many calls as there may be' "$(unfixes 65536)" 1 "$(refusals 65536)"$'\n'
+    bad_line 'a call too many' 65542 "$(unfixes 65537)"
+    bad_line 'a call too many, before a bad line' 65542 "$(unfixes 65538)"$'\nfix\n'
 }
 
 long_scripts() {
@@ -624,12 +740,14 @@ streams() {
 }
 
 examples
+victims
 trails
 pages
 changes
 flushes
 logs
 bad_lines
+many_calls
 long_scripts
 words
 files

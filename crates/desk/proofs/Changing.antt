@@ -23,7 +23,8 @@ use Rattle.trail.specs.declared.event.Kind.TheVariants as kind
 use Rattle.trail.specs.Dirt.{dirtied, dirty, dirt_of, is_dirty}
 use Rattle.trail.specs.History.{value, home, change, changes}
 use Rattle.trail.specs.Places.{mark}
-use Rattle.frame_words.specs.Appends.{AreReady, FitsHomes, FitsOpen, appended, extended, pages_named, turn_after, words_told}
+use Rattle.trail.specs.Alone.{words_told}
+use Rattle.frame_words.specs.Appends.{AreReady, FitsHomes, FitsOpen, appended, extended, pages_named, turn_after}
 use Rattle.frame_words.specs.Conditions.{AreFound, AreOurs, ArePublished, IsNext, IsReached, IsUncovered, MayAppend, MayLay}
 use Rattle.frame_words.specs.Rows.{Row, Uncovers, laid_row, latched_row, lifted_row, stamped_row, unlatched_row}
 use Rattle.frame_words.specs.Seen.{FramesSeen, History, Turn, row_at, with_row, OnValue}

@@ -15,3 +15,11 @@ pub mod Cleaning
 pub mod BehindWrites
 pub mod Changing
 pub mod Trials
+pub mod Walks
+pub mod PassedWords
+pub mod Values
+pub mod Claims
+pub mod Seeking
+pub mod Finding
+pub mod Evicting
+pub mod Fixing

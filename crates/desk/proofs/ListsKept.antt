@@ -22,7 +22,7 @@ use Rattle.trail.specs.Book.{Book, book, book_after, give_next, is_late, without
 use Rattle.trail.specs.Dirt.{dirty, dirty_after, dirtied, cleaned, dirt_of, is_dirty, log_end, log_end_after}
 use Rattle.trail.specs.Order.{order, order_after}
 use Rattle.desk.specs.Ledger.{IsVacant}
-use Rattle.desk.specs.KeptLists.{AreKept, KeepsHomes, KeepsBook, KeepsDirty, Absent, AreFrames, in_turn, plain_book, page_in, is_quiet}
+use Rattle.desk.specs.KeptLists.{AreKept, KeepsHomes, KeepsBook, KeepsDirty, Absent, AreFrames, in_turn, plain_book, page_in, is_quiet, AreOthersUsed}
 use Rattle.desk.proofs.Dirt.{no_way, same_self, same_is, dirtied_is, dirtied_here, dirtied_other, cleaned_of}
 use Rattle.desk.proofs.ListsOrder.{order_on, order_fix, order_load, order_evict}
 
@@ -77,6 +77,10 @@ absent_last f g (x ∷ fs) ne a = (a.0, absent_last f g fs ne a.1)
 frames_last : (n g : ℕ) (fs : List ℕ) → g < n → Absent g fs → AreFrames n fs → AreFrames n (fs ++ g ∷ [])
 frames_last n g [] lt a fs = (lt, tt, tt)
 frames_last n g (x ∷ xs) lt a fs = (fs.0, absent_last x g xs (λ e. a.0 (sym e)) fs.1, frames_last n g xs lt a.1 fs.2)
+
+absent_before_last : (f g : ℕ) (fs : List ℕ) → Absent f (fs ++ g ∷ []) → (f ≢ g) × Absent f fs
+absent_before_last f g [] a = (a.0, tt)
+absent_before_last f g (x ∷ fs) a = let rest = absent_before_last f g fs a.1 in (rest.0, (a.0, rest.1))
 
 length-last : (fs : List ℕ) (g : ℕ) → length (fs ++ g ∷ []) ≡ length fs + 1
 length-last [] g = omega arith
@@ -210,6 +214,45 @@ book_late c h new free hand same gave k = by_turn (in_turn hand free) refl
           taken = λ p g here. away g l (subst (λ (l : List ℕ). Absent g l) turn (k.taken p g (sym (same p) ∙ here)));
         }
 
+-- The frames that are not in turn.
+used_on : (c : Config) (h new : List Entry) (tenants : List PageId) (fs : List ℕ) → ((p : PageId) → home new p ≡ home h p) → AreOthersUsed c h tenants fs → AreOthersUsed c new tenants fs
+used_on c h new tenants fs same k = λ f below away. same (page_in tenants f) ∙ k f below away
+
+used_load : (c : Config) (h new : List Entry) (tenants : List PageId) (p : PageId) (f : ℕ) (rest : List ℕ)
+    → ((q : PageId) → home new q ≡ cond (same_page p q) (Some f) (home h q)) → home h p ≡ None → f < length tenants → AreOthersUsed c h tenants (f ∷ rest) → AreOthersUsed c new (set tenants f p) rest
+used_load c h new tenants p f rest after absent below k = λ g inside away. elim (cases_eq g f) [
+  | inl e ↦
+      let own : page_in (set tenants f p) g ≡ p = ap (page_in (set tenants f p)) e ∙ get_or-set_same tenants f p nowhere below in
+      ap (home new) own ∙ after p ∙ ap (λ (b : Bool). cond b (Some f) (home h p)) (same_self p) ∙ ap (λ (m : ℕ). Some m) (sym e)
+  | inr ne ↦
+      let q = page_in tenants g in
+      ap (home new) (get_or-set_other tenants f g p nowhere ne) ∙ after q ∙ stays g q (same_page p q) refl (k g inside (ne, away))
+]
+  where
+    nowhere : PageId
+    nowhere = record { space = 0; page = 0 }
+
+    stays : (g : ℕ) (q : PageId) (b : Bool) → same_page p q ≡ b → home h q ≡ Some g → cond b (Some f) (home h q) ≡ Some g
+    stays g q true same was = absurd (none_some g (sym absent ∙ ap (home h) (same_is p q same) ∙ was))
+    stays g q false same was = was
+
+used_evict : (c : Config) (h new : List Entry) (tenants : List PageId) (p : PageId) (f : ℕ) (free : List ℕ)
+    → ((q : PageId) → home new q ≡ cond (same_page p q) None (home h q)) → home h p ≡ Some f → AreOthersUsed c h tenants [] → AreOthersUsed c new tenants (f ∷ free)
+used_evict c h new tenants p f free after here k = λ g inside away.
+    let q = page_in tenants g in
+    after q ∙ stays g q away.0 (same_page p q) refl (k g inside tt)
+  where
+    stays : (g : ℕ) (q : PageId) → g ≢ f → (b : Bool) → same_page p q ≡ b → home h q ≡ Some g → cond b None (home h q) ≡ Some g
+    stays g q ne true same was = absurd (ne (some_same g f (sym was ∙ sym (ap (home h) (same_is p q same)) ∙ here)))
+    stays g q ne false same was = was
+
+used_late : (c : Config) (h new : List Entry) (tenants : List PageId) (fs : List ℕ) → ((p : PageId) → home new p ≡ home h p) → AreOthersUsed c h tenants fs → AreOthersUsed c new tenants (drop 1 fs ++ take 1 fs)
+used_late c h new tenants fs same k = λ f below away. same (page_in tenants f) ∙ k f below (front_too f fs away)
+  where
+    front_too : (f : ℕ) (l : List ℕ) → Absent f (drop 1 l ++ take 1 l) → Absent f l
+    front_too f [] away = tt
+    front_too f (g ∷ rest) away = absent_before_last f g rest away
+
 -- Dirty pages.
 dirt_on : (h new : List Entry) (ds : List Dirty) → ((p : PageId) → home new p ≡ home h p) → dirty new ≡ dirty h → log_end new ≡ log_end h → KeepsDirty h ds → KeepsDirty new ds
 dirt_on h new ds same stays ends k = record {
@@ -328,9 +371,11 @@ module _ (c : Config) (h : List Entry) (homes : PageId → Option ℕ) (tenants 
       let q = leaves e.kind quiet in
       let same : (p : PageId) → home (e ∷ h) p ≡ home h p = λ p. q.homes p (home h p) in
       record {
+        one = k.one;
         places = placed;
         homed = homes_on c h (e ∷ h) homes tenants same k.homed;
         booked = book_on c h (e ∷ h) free hand same (q.books c.frames e (book c h)) k.booked;
+        used = used_on c h (e ∷ h) tenants (in_turn hand free) same k.used;
         soiled = dirt_on h (e ∷ h) listed same (q.dirt (dirty h)) (q.ends (log_end h)) k.soiled;
         ordered = order_on c h homes tenants lru k.homed k.ordered e same (q.orders (numbers_of c) (order c h));
         frames = k.frames;
@@ -342,9 +387,11 @@ module _ (c : Config) (h : List Entry) (homes : PageId → Option ℕ) (tenants 
   kept_fix p f clock now is here =
       let same : (q : PageId) → home (e ∷ h) q ≡ home h q = λ q. ap (λ (x : Kind). home_after x q (home h q)) is in
       record {
+        one = k.one;
         places = placed;
         homed = homes_on c h (e ∷ h) homes tenants same k.homed;
         booked = book_on c h (e ∷ h) free hand same (ap (λ (x : Kind). book_after c.frames e x (book c h)) is) k.booked;
+        used = used_on c h (e ∷ h) tenants (in_turn hand free) same k.used;
         soiled = dirt_on h (e ∷ h) listed same (ap (λ (x : Kind). dirty_after x (dirty h)) is) (ap (λ (x : Kind). log_end_after x (log_end h)) is) k.soiled;
         ordered = order_fix c h homes tenants lru k.homed k.ordered e p f clock now is here;
         frames = k.frames;
@@ -356,9 +403,11 @@ module _ (c : Config) (h : List Entry) (homes : PageId → Option ℕ) (tenants 
   kept_put p at bytes start end is ahead resident =
       let same : (q : PageId) → home (e ∷ h) q ≡ home h q = λ q. ap (λ (x : Kind). home_after x q (home h q)) is in
       record {
+        one = k.one;
         places = placed;
         homed = homes_on c h (e ∷ h) homes tenants same k.homed;
         booked = book_on c h (e ∷ h) free hand same (ap (λ (x : Kind). book_after c.frames e x (book c h)) is) k.booked;
+        used = used_on c h (e ∷ h) tenants (in_turn hand free) same k.used;
         soiled = dirt_put h (e ∷ h) listed p start end same (ap (λ (x : Kind). dirty_after x (dirty h)) is) (ap (λ (x : Kind). log_end_after x (log_end h)) is) ahead resident k.soiled;
         ordered = order_on c h homes tenants lru k.homed k.ordered e same (ap (λ (x : Kind). order_after (numbers_of c) x (order c h)) is);
         frames = k.frames;
@@ -369,9 +418,11 @@ module _ (c : Config) (h : List Entry) (homes : PageId → Option ℕ) (tenants 
   kept_write p lsn upto is =
       let same : (q : PageId) → home (e ∷ h) q ≡ home h q = λ q. ap (λ (x : Kind). home_after x q (home h q)) is in
       record {
+        one = k.one;
         places = placed;
         homed = homes_on c h (e ∷ h) homes tenants same k.homed;
         booked = book_on c h (e ∷ h) free hand same (ap (λ (x : Kind). book_after c.frames e x (book c h)) is) k.booked;
+        used = used_on c h (e ∷ h) tenants (in_turn hand free) same k.used;
         soiled = dirt_write h (e ∷ h) listed p same (ap (λ (x : Kind). dirty_after x (dirty h)) is) (ap (λ (x : Kind). log_end_after x (log_end h)) is) k.soiled;
         ordered = order_on c h homes tenants lru k.homed k.ordered e same (ap (λ (x : Kind). order_after (numbers_of c) x (order c h)) is);
         frames = k.frames;
@@ -387,9 +438,11 @@ module _ (c : Config) (h : List Entry) (homes : PageId → Option ℕ) (tenants 
       let frames : AreFrames c.frames (f ∷ rest) = subst (λ (l : List ℕ). AreFrames c.frames l) turn k.booked.distinct in
       let long : length (in_turn hand free) ≡ length (f ∷ rest) = ap (length {A = ℕ}) turn in
       record {
+        one = k.one;
         places = placed;
         homed = homes_load c h (e ∷ h) homes more tenants p f after grown frames.0 none k.homed;
         booked = book_load c h (e ∷ h) free rest hand p f after (ap (λ (x : Kind). book_after c.frames e x (book c h)) is) turn k.booked;
+        used = used_load c h (e ∷ h) tenants p f rest after absent (omega (arith, frames.0, k.homed.tenant_count)) (subst (λ (l : List ℕ). AreOthersUsed c h tenants l) turn k.used);
         soiled = dirt_load h (e ∷ h) listed p f after (ap (λ (x : Kind). dirty_after x (dirty h)) is) (ap (λ (x : Kind). log_end_after x (log_end h)) is) k.soiled;
         ordered = order_load c h homes tenants lru k.homed k.ordered e p f is absent none frames.0;
         frames = k.frames;
@@ -404,9 +457,11 @@ module _ (c : Config) (h : List Entry) (homes : PageId → Option ℕ) (tenants 
       let below = k.homed.housed p f here in
       let short : length free ≡ 0 = ap (length {A = ℕ}) (turn_empty hand free turn).1 in
       record {
+        one = k.one;
         places = placed;
         homed = homes_evict c h (e ∷ h) homes less tenants p after left k.homed;
         booked = book_evict c h (e ∷ h) homes tenants free hand e p f passed after (ap (λ (x : Kind). book_after c.frames e x (book c h)) is) turn here k.homed k.booked;
+        used = used_evict c h (e ∷ h) tenants p f free after here (subst (λ (l : List ℕ). AreOthersUsed c h tenants l) turn k.used);
         soiled = dirt_evict h (e ∷ h) listed p after (ap (λ (x : Kind). dirty_after x (dirty h)) is) (ap (λ (x : Kind). log_end_after x (log_end h)) is) clean k.soiled;
         ordered = order_evict c h homes tenants lru k.homed k.ordered e p f passed is here;
         frames = k.frames;
@@ -419,9 +474,11 @@ module _ (c : Config) (h : List Entry) (homes : PageId → Option ℕ) (tenants 
       let same : (q : PageId) → home (e ∷ h) q ≡ home h q = λ q. ap (λ (x : Kind). home_after x q (home h q)) is in
       let gave : book c (e ∷ h) ≡ give_next c.frames (book c h) = ap (λ (x : Kind). book_after c.frames e x (book c h)) is ∙ ap (λ (b : Bool). cond b (give_next c.frames (book c h)) (book c h)) late in
       record {
+        one = k.one;
         places = placed;
         homed = homes_on c h (e ∷ h) homes tenants same k.homed;
         booked = book_late c h (e ∷ h) free hand same gave k.booked;
+        used = used_late c h (e ∷ h) tenants (in_turn hand free) same k.used;
         soiled = dirt_on h (e ∷ h) listed same (ap (λ (x : Kind). dirty_after x (dirty h)) is) (ap (λ (x : Kind). log_end_after x (log_end h)) is) k.soiled;
         ordered = order_on c h homes tenants lru k.homed k.ordered e same (ap (λ (x : Kind). order_after (numbers_of c) x (order c h)) is);
         frames = k.frames;
@@ -449,6 +506,7 @@ kept_as c h new homes tenants free free' hand hand' listed listed' lru lru' seat
 pub kept_reordered : (c : Config) (h : List Entry) (homes more : PageId → Option ℕ) (tenants : List PageId) (free : List ℕ) (hand : Option ℕ) (listed : List Dirty) (lru : View) (seats : ℕ)
     → ((p : PageId) → more p ≡ homes p) → AreKept c h homes tenants free hand listed lru seats → AreKept c h more tenants free hand listed lru seats
 kept_reordered c h homes more tenants free hand listed lru seats same k = record {
+  one = k.one;
   places = k.places;
   homed = record {
     homes_are = λ p. same p ∙ k.homed.homes_are p;
@@ -457,6 +515,7 @@ kept_reordered c h homes more tenants free hand listed lru seats same k = record
     tenant_count = k.homed.tenant_count;
   };
   booked = k.booked;
+  used = k.used;
   soiled = k.soiled;
   ordered = k.ordered;
   frames = k.frames;

@@ -31,6 +31,10 @@ frames_rising : (from k n : ℕ) → from + k ≤ n → AreFrames n (rising from
 frames_rising from zero n le = tt
 frames_rising from (suc k) n le = (omega (arith, le), absent_rising from (from + 1) k (omega arith), frames_rising (from + 1) k n (omega (arith, le)))
 
+present_rising : (f from k : ℕ) → from ≤ f → f < from + k → Absent f (rising from k) → ⊥
+present_rising f from zero low high away = omega (arith, low, high)
+present_rising f from (suc k) low high away = present_rising f (from + 1) k (omega (arith, low, away.0)) (omega (arith, high)) away.1
+
 pub kept_new : (c : Config) (homes : PageId → Option ℕ) (tenants : List PageId) (free : List ℕ) (lru : View) (seats : ℕ)
     → chunks_of c ≡ 1 → ((p : PageId) → homes p ≡ None) → length tenants ≡ c.frames → free ≡ rising 0 c.frames
     → lru.numbers ≡ numbers_of c → lru.order ≡ empty_order → lru.room ≡ c.frames → c.frames ≤ seats
@@ -40,6 +44,7 @@ kept_new c homes tenants free lru seats one empty count free_is numbers order ro
     let all : chunks_of c * c.frames ≡ c.frames = ap (λ n. n * c.frames) one ∙ times_one c.frames in
     let long : length free ≡ c.frames = ap (length {A = ℕ}) free_is ∙ length-rising 0 c.frames in
     record {
+      one = one;
       places = places c.first;
       homed = record {
         homes_are = empty;
@@ -52,6 +57,7 @@ kept_new c homes tenants free lru seats one empty count free_is numbers order ro
         distinct = subst F (sym free_is) (frames_rising 0 c.frames c.frames (omega arith));
         taken = λ p f e. absurd (cc);
       };
+      used = λ f below away. absurd (present_rising f 0 c.frames (omega arith) (omega (arith, below)) (subst (λ (l : List ℕ). Absent f l) free_is away));
       soiled = record {
         dirty_are = refl;
         clean = λ p e. refl;

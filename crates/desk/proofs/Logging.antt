@@ -1,5 +1,5 @@
 -- What the log has of a history it still has later.
-use Rattle.std.proofs.Common.{◌≡◌, ◌≤◌, ◌+◌, ◌++◌, ℕ, List, [], ◌∷◌, Option, None, Some, IfSome, length, ap, ◌∙◌, sym, subst, arith, append_assoc, length-append}
+use Rattle.std.proofs.Common.{◌≡◌, ◌≤◌, ◌+◌, ◌++◌, ℕ, List, [], ◌∷◌, Option, None, Some, IfSome, length, refl, ap, ◌∙◌, sym, subst, arith, append_assoc, length-append}
 use Rattle.std.specs.Int.{w16, w32, to_be_bytes}
 use Rattle.redo_mark.specs.Logs.{Seen, Holds, IsLater, Grows}
 use Rattle.redo_mark.specs.Records.{head_of}
@@ -12,7 +12,14 @@ use Rattle.trail.specs.declared.event.Cause.TheVariants as cause
 use Rattle.trail.specs.declared.event.Entry.{Entry}
 use Rattle.trail.specs.declared.event.Kind.{Kind}
 use Rattle.trail.specs.declared.event.Kind.TheVariants as kind
-use Rattle.desk.specs.Logged.{IsLogged, IsLoggedKind, IsLoggedCause, put_change}
+use Rattle.desk.specs.Logged.{IsLogged, AreUpTo, IsUpTo, IsLoggedKind, IsLoggedCause, put_change}
+
+-- no entry came, or one more
+pub upto_none : (m : ℕ) (h : List Entry) → AreUpTo m h h
+upto_none m h = record { came = []; split = refl; each = tt }
+
+pub upto_more : (m : ℕ) (h k l : List Entry) (e : Entry) → IsUpTo m e.kind → l ≡ e ∷ k → AreUpTo m h k → AreUpTo m h l
+upto_more m h k l e kind_is is were = record { came = e ∷ were.came; split = is ∙ ap (λ (x : List Entry). e ∷ x) were.split; each = (kind_is, were.each) }
 
 pub holds_later : (old new : Seen) (piece : List ℕ) (start : ℕ) → IsLater old new → Holds old piece start → Holds new piece start
 holds_later old new piece start later holds = record {

@@ -61,6 +61,10 @@ plain_book c free hand = record { chunks = chunks_of c; area = None; free = free
 abbrev pub page_in : List PageId → ℕ → PageId
 page_in tenants f = slice_index_or tenants f (record { space = 0; page = 0 })
 
+-- a frame of the chunk that is not among these is the home of the page that it had last
+abbrev pub AreOthersUsed : Config → List Entry → List PageId → List ℕ → Type 0
+AreOthersUsed c h tenants fs = (f : ℕ) → f < c.frames → Absent f fs → home h (page_in tenants f) ≡ Some f
+
 -- whether the frame is the page's home
 abbrev pub is_home : List Entry → PageId → ℕ → Bool
 is_home h p f = option_map_or (λ g. g == f) (home h p) false
@@ -94,9 +98,11 @@ pub record KeepsOrder (c : Config) (h : List Entry) (tenants : List PageId) (lru
 
 -- all lists, where so many frames have room in the free list
 pub record AreKept (c : Config) (h : List Entry) (homes : PageId → Option ℕ) (tenants : List PageId) (free : List ℕ) (hand : Option ℕ) (listed : List Dirty) (lru : View) (seats : ℕ) : Type 0 where
+  pub one : chunks_of c ≡ 1
   pub places : mark c.first h ≡ c.first + length h
   pub homed : KeepsHomes c h homes tenants
   pub booked : KeepsBook c h free hand
+  pub used : AreOthersUsed c h tenants (in_turn hand free)
   pub soiled : KeepsDirty h listed
   pub ordered : KeepsOrder c h tenants lru
   pub frames : c.frames ≤ seats

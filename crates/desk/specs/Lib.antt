@@ -11,3 +11,6 @@ pub mod Loads
 pub mod Logged
 pub mod Changes
 pub mod Trials
+pub mod Victims
+pub mod Fixing
+pub mod Claimed

@@ -1,15 +1,19 @@
 -- What a desk's own steps of a fix need, and what reading a page into a frame leaves.
-use Rattle.std.specs.Prelude.{ℕ, List, [], ◌≡◌, ◌<◌, ◌≤◌, Option, None, Some, IfSome, length, replicate, slice_index_or}
+use Rattle.std.specs.Prelude.{ℕ, List, [], ◌≡◌, ◌<◌, ◌≤◌, ◌+◌, Option, None, Some, IfSome, length, replicate, slice_index_or}
 use Rattle.page_ids.specs.Content.{Content}
 use Rattle.page_ids.specs.Layout.{IsPage}
 use Rattle.page_ids.specs.declared.ids.PageId.{PageId}
-use Rattle.trail.specs.declared.event.Call.{Call}
+use Rattle.redo_mark.specs.Logs.{Seen}
+use Rattle.trail.specs.Alone.{cause_words}
+use Rattle.trail.specs.Dirt.{log_end}
+use Rattle.trail.specs.declared.event.Call.TheVariants as call
 use Rattle.trail.specs.declared.event.Cause.{Cause}
-use Rattle.trail.specs.declared.event.Held.{Held}
-use Rattle.frame_words.specs.Appends.{cause_words, FitsRefusal}
+use Rattle.trail.specs.declared.event.Entry.{Entry}
+use Rattle.frame_words.specs.Appends.{FitsRefusal}
 use Rattle.frame_words.specs.Rows.{laid_row, new_row}
 use Rattle.frame_words.specs.Plain.{Plain}
 use Rattle.frame_words.specs.Seen.{FramesSeen, row_at, with_row}
+use Rattle.desk.specs.Logged.{IsLogged, AreUpTo}
 use Rattle.desk.specs.State.{State}
 use Rattle.desk.specs.Tied.{HasTurn, IsOwn}
 use Rattle.desk.specs.declared.calls.Caller.{Caller}
@@ -31,10 +35,17 @@ pub record IsInImage (told : Option (List ℕ)) (s : FramesSeen) (p : PageId) (f
   pub image : (row_at s f).image ≡ Some (Some content)
   pub read : IfSome told (λ bytes. IsPage p bytes content)
 
--- the cause has no word, and may refuse each call whose caller may have one fix more
-pub record IsWordless (why : Cause) : Type 0 where
+-- the cause has no word, and may refuse a fix of a caller with these open fixes
+pub record MayRefuse (s : FramesSeen) (p : PageId) (now : ℕ) (why : Cause) : Type 0 where
   pub words : cause_words why ≡ []
-  pub fits : (opened : List Held) (asked : Call) → length opened < 64 → FitsRefusal opened asked why
+  pub fits : IfSome s.opened (λ opened. FitsRefusal opened (call.Fix p now) why)
+
+-- one entry came, which tells nothing of the log
+pub record IsOneMore (old new : List Entry) : Type 0 where
+  pub count : length new ≡ length old + 1
+  pub logged : (log : Seen) → IsLogged log old → IsLogged log new
+  pub ends : log_end new ≡ log_end old
+  pub upto : (mark : ℕ) (h : List Entry) → AreUpTo mark h old → AreUpTo mark h new
 
 -- so many frames of one thread that were never used; the first ones, as many as were laid, have a blank image
 pub record AreBlank (size laid count : ℕ) (frames : Plain) : Type 0 where

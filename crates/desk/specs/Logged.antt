@@ -1,5 +1,5 @@
 -- What the log has of a history.
-use Rattle.std.specs.Prelude.{ℕ, List, [], ◌∷◌, ◌≤◌, ⊤}
+use Rattle.std.specs.Prelude.{ℕ, List, [], ◌∷◌, ◌++◌, ◌≡◌, ◌≤◌, ⊤}
 use Rattle.page_ids.specs.declared.ids.PageId.{PageId}
 use Rattle.redo_mark.specs.Logs.{Seen, Holds}
 use Rattle.redo_mark.specs.Records.{record_of}
@@ -68,3 +68,36 @@ IsLoggedKind log (kind.Refused asked why) = IsLoggedCause log why
 abbrev pub IsLogged : Seen → List Entry → Type 0
 IsLogged log [] = ⊤
 IsLogged log (e ∷ h) = IsLoggedKind log e.kind × IsLogged log h
+
+-- a write says this mark: the log was durable just up to there
+abbrev pub IsUpTo : ℕ → Kind → Type 0
+IsUpTo mark (kind.Load p f) = ⊤
+IsUpTo mark (kind.Fix p f clock now) = ⊤
+IsUpTo mark (kind.Create p f start end now) = ⊤
+IsUpTo mark (kind.Put p at bytes start end) = ⊤
+IsUpTo mark (kind.Evict p f passed) = ⊤
+IsUpTo mark (kind.Write p lsn upto) = upto ≡ mark
+IsUpTo mark (kind.Move p from to) = ⊤
+IsUpTo mark (kind.Withdraw from) = ⊤
+IsUpTo mark (kind.Undo from) = ⊤
+IsUpTo mark (kind.Shrink chunks) = ⊤
+IsUpTo mark (kind.Grow chunks) = ⊤
+IsUpTo mark (kind.Resize bytes chunks) = ⊤
+IsUpTo mark (kind.Clean written skipped) = ⊤
+IsUpTo mark (kind.Check lsn) = ⊤
+IsUpTo mark (kind.WatchSet p) = ⊤
+IsUpTo mark (kind.WatchAt p f) = ⊤
+IsUpTo mark (kind.Occurred p arrived) = ⊤
+IsUpTo mark (kind.Unwatch p) = ⊤
+IsUpTo mark (kind.Dump pct ids) = ⊤
+IsUpTo mark (kind.Refused asked why) = ⊤
+
+abbrev pub AreAllUpTo : ℕ → List Entry → Type 0
+AreAllUpTo mark [] = ⊤
+AreAllUpTo mark (e ∷ h) = IsUpTo mark e.kind × AreAllUpTo mark h
+
+-- each write among the entries that came says this mark
+pub record AreUpTo (mark : ℕ) (old new : List Entry) : Type 0 where
+  pub came : List Entry
+  pub split : new ≡ came ++ old
+  pub each : AreAllUpTo mark came

@@ -1,5 +1,5 @@
 -- What a call of the desk appends, and what it leaves.
-use Rattle.std.specs.Prelude.{ℕ, List, [], ◌∷◌, ◌≡◌, ◌+◌, ◌<◌, ◌≤◌, ◌⊎◌, Option, None, Some, slice_index_or, slice_set, IfSome}
+use Rattle.std.specs.Prelude.{ℕ, List, [], ◌∷◌, ◌≡◌, ◌+◌, ◌<◌, ◌≤◌, Option, None, Some, slice_index_or, slice_set, IfSome}
 use Rattle.page_ids.specs.Content.{Content}
 use Rattle.page_ids.specs.Layout.{IsPage}
 use Rattle.page_ids.specs.declared.ids.PageId.{PageId}
@@ -62,16 +62,6 @@ pub record IsHit {D : Type 0} (old new : State D) (rows rows' : List Row) (by : 
   pub disk : new.disk ≡ old.disk
   pub rows_are : rows' ≡ slice_set rows g.frame (held_row (row_in rows g.frame))
 
--- the page was read in before
-pub record IsMiss {D : Type 0} (told : D → PageId → Option (List ℕ)) (old new : State D) (rows rows' : List Row) (by : Caller) (p : PageId) (now : ℕ) (g : Granted) : Type 0 where
-  pub mid : State D
-  pub between : List Row
-  pub loaded : IsLoaded told old mid rows between by p g.frame
-  pub hit : IsHit mid new between rows' by p now g
-
-abbrev pub IsGrantedBy : {D : Type 0} → (D → PageId → Option (List ℕ)) → State D → State D → List Row → List Row → Caller → PageId → ℕ → Granted → Type 0
-IsGrantedBy told old new rows rows' by p now g = IsHit old new rows rows' by p now g ⊎ IsMiss told old new rows rows' by p now g
-
 -- the fix was refused with this cause
 abbrev pub IsRefusedFix : {D : Type 0} → State D → State D → Caller → PageId → ℕ → Cause → Type 0
 IsRefusedFix old new by p now why = IsAppended old new by (kind.Refused (call.Fix p now) why)
@@ -97,17 +87,13 @@ pub record IsUnsound {D : Type 0} (told : D → PageId → Option (List ℕ)) (o
 
 -- why a page was not loaded
 abbrev pub IsLoadRefusal : {D : Type 0} → (D → PageId → Option (List ℕ)) → (D → ℕ) → State D → State D → Caller → PageId → ℕ → FixErr → Type 0
-IsLoadRefusal told faults old new by p now refusal.OutOfMemory = new ≡ old
+IsLoadRefusal told faults old new by p now refusal.OutOfMemory = ⊥
 IsLoadRefusal told faults old new by p now (refusal.NoSuchPage pages) = ⊥
+IsLoadRefusal told faults old new by p now (refusal.HoldFull held) = ⊥
+IsLoadRefusal told faults old new by p now (refusal.AllFixed seen) = ⊥
+IsLoadRefusal told faults old new by p now (refusal.RedoFault before after) = ⊥
 IsLoadRefusal told faults old new by p now (refusal.DiskFault before after) = IsFaulted faults old new by p now before after
 IsLoadRefusal told faults old new by p now (refusal.BadPage bad) = IsUnsound told old new by p now bad
-
--- why a fix was refused, and what stands then: nothing has changed, or the refusal was appended
-abbrev pub IsFixRefusal : {D : Type 0} → (D → PageId → Option (List ℕ)) → (D → ℕ → Option ℕ) → (D → ℕ) → State D → State D → Caller → PageId → ℕ → FixErr → Type 0
-IsFixRefusal told spaces faults old new by p now refusal.OutOfMemory = new ≡ old
-IsFixRefusal told spaces faults old new by p now (refusal.NoSuchPage pages) = IsOutside spaces old new by p now pages
-IsFixRefusal told spaces faults old new by p now (refusal.DiskFault before after) = (p.page < pages_in (spaces old.disk) p.space) × IsFaulted faults old new by p now before after
-IsFixRefusal told spaces faults old new by p now (refusal.BadPage bad) = (p.page < pages_in (spaces old.disk) p.space) × IsUnsound told old new by p now bad
 
 -- nothing happened yet
 pub record IsFresh {D : Type 0} (desk : State D) (config : Config) (instance : ℕ) (disk : D) : Type 0 where

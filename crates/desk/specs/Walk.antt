@@ -1,26 +1,43 @@
--- The walk over the resident pages, from the tail of the LRU list towards its head.
-use Rattle.std.specs.Prelude.{ℕ, Bool, false, List, [], ◌∷◌, Option, None, Some, map, if◌then◌else◌}
-use Rattle.std.specs.Option.{option_map_or, option_and_then}
+-- The pages of the LRU list as a walk from the tail meets them, and what the lists of a desk know of their history.
+use Rattle.std.specs.Prelude.{ℕ, Bool, false, List, [], ◌∷◌, ◌≡◌, ◌==◌, ◌<◌, ◌≤◌, Option, None, Some, is_some, if◌then◌else◌}
+use Rattle.std.specs.Option.{option_map_or}
+use Rattle.page_ids.specs.Chunks.{rising}
+use Rattle.page_ids.specs.Midpoint.{count_of}
+use Rattle.page_ids.specs.Same.{same_page}
 use Rattle.page_ids.specs.declared.ids.PageId.{PageId}
 use Rattle.page_ids.specs.declared.config.Config.{Config}
+use Rattle.trail.specs.declared.event.Dirty.{Dirty}
 use Rattle.trail.specs.declared.event.Entry.{Entry}
 use Rattle.trail.specs.History.{home}
+use Rattle.trail.specs.Dirt.{dirty, dirt_of, log_end}
 use Rattle.trail.specs.Order.{order}
-use Rattle.desk.specs.KeptLists.{is_home}
+use Rattle.trail.specs.Book.{book}
+use Rattle.trail.specs.Victim.{frames_there}
 
--- the resident pages in LRU order, the head first
-abbrev pub pages_of : Config → List Entry → List PageId
-pages_of c h = map (λ x. x.key) (order c h).listed
+-- whether the page is in the frame
+abbrev pub is_in_frame : List Entry → ℕ → PageId → Bool
+is_in_frame h f p = option_map_or (λ g. g == f) (home h p) false
 
--- The page before the first one that passes the test, and the last page where none does; `before` is the one before them all.
-abbrev pub page_before : (PageId → Bool) → Option PageId → List PageId → Option PageId
-page_before test before [] = before
-page_before test before (p ∷ ps) = if test p then before else page_before test (Some p) ps
+-- the frame of the first of these pages
+abbrev pub first_home : List Entry → List PageId → Option ℕ
+first_home h [] = None
+first_home h (p ∷ ps) = home h p
 
--- whether this is the page's home; for none it is that of no page
-abbrev pub is_at : List Entry → Option ℕ → PageId → Bool
-is_at h after p = option_map_or (λ f. is_home h p f) after false
+-- the frame of the page behind that in the frame; of the first one where no frame is given
+abbrev pub next_home : List Entry → Option ℕ → List PageId → Option ℕ
+next_home h None ps = first_home h ps
+next_home h (Some f) [] = None
+next_home h (Some f) (p ∷ ps) = if is_in_frame h f p then first_home h ps else next_home h (Some f) ps
 
--- the home of the last page, or of the page one before that in the frame `after`; none in front of the head
-abbrev pub next_home : Config → List Entry → Option ℕ → Option ℕ
-next_home c h after = option_and_then (home h) (page_before (is_at h after) None (pages_of c h))
+-- What the lists of a desk know of their history.
+pub record AreOrderly (c : Config) (h : List Entry) : Type 0 where
+  -- each resident page is listed once, and no other page
+  pub listed : (p : PageId) → count_of (λ q. same_page q p) (order c h).listed ≡ (if is_some (home h p) then 1 else 0)
+  -- a page has its frame alone
+  pub alone : (p q : PageId) (f : ℕ) → home h p ≡ Some f → home h q ≡ Some f → q ≡ p
+  pub below : (p : PageId) (f : ℕ) → home h p ≡ Some f → f < c.frames
+  -- a dirty page's last change is in the log
+  pub logged : (p : PageId) (d : Dirty) → dirt_of (dirty h) p ≡ Some d → d.newest ≤ log_end h
+  -- no chunk is being withdrawn, and the frames are those of the one chunk
+  pub no_area : (book c h).area ≡ None
+  pub there : frames_there c.frames (book c h) ≡ rising 0 c.frames

@@ -17,13 +17,19 @@ pub struct Granted {
 }
 
 /// Why a fix was refused.
-#[derive(Clone, Copy, Debug, PartialEq, Eq)]
+#[derive(Debug, PartialEq, Eq, Drop)]
 pub enum FixErr {
-    /// No memory, or no free frame. Nothing has changed.
+    /// No memory. Nothing has changed.
     OutOfMemory,
     /// The page lies behind the last of the `pages` pages of its space.
     NoSuchPage { pages: u32 },
-    /// The disk's count of faults rose from `before` to `after` in the read.
+    /// The caller holds `held` fixes in the instance, which is the most that it may.
+    HoldFull { held: u32 },
+    /// No frame was free, and every frame was seen with a fix.
+    AllFixed { seen: Words },
+    /// The log's count of faults rose from `before` to `after` as it was to be made durable for a page that had to be written first.
+    RedoFault { before: u64, after: u64 },
+    /// The disk's count of faults rose from `before` to `after` in the read, or in the write of a page that had to leave.
     DiskFault { before: u64, after: u64 },
     /// The bytes that were read are no page of this id.
     BadPage(BadPage),

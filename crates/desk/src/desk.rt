@@ -21,13 +21,16 @@ ghost use Rattle.frame_words.specs.Seen.{FramesSeen, row_at, with_row, KeepsRoom
 ghost use Rattle.desk.specs.Base.{Opened};
 ghost use Rattle.desk.specs.Behind.{IsBehind, IsOpening};
 ghost use Rattle.desk.specs.Changes.{IsBody, IsPutBy, IsPutRefusal, IsWriteBack, IsImageTold, IsWriteFault, LeavesDesk, WritesBack, IsCleaned, IsCleanRefusal};
+ghost use Rattle.desk.specs.Claimed.{KeepsLog};
+ghost use Rattle.desk.specs.Fixing.{IsMiss, IsGrantedBy, IsFixRefusal, NeedsNoVictim, IsUnlogged};
 ghost use Rattle.desk.specs.Ledger.{IsOneChunk, IsVacant, MayCome, ledger_of};
-ghost use Rattle.desk.specs.Loads.{MayFix, IsRead, IsInImage, IsWordless, AreBlank};
-ghost use Rattle.desk.specs.Logged.{IsLogged};
+ghost use Rattle.desk.specs.Loads.{MayFix, MayRefuse, IsRead, IsInImage, AreBlank, IsOneMore};
+ghost use Rattle.desk.specs.Logged.{IsLogged, AreUpTo};
 ghost use Rattle.desk.specs.Reads.{IsReadRefusal};
 ghost use Rattle.desk.specs.State.{State};
-ghost use Rattle.desk.specs.Steps.{IsAppended, IsRefusedFix, IsLoaded, IsHit, IsGrantedBy, IsLoadRefusal, IsFixRefusal, IsFresh, next_entry};
+ghost use Rattle.desk.specs.Steps.{IsAppended, IsRefusedFix, IsLoaded, IsHit, IsLoadRefusal, IsFresh, next_entry};
 ghost use Rattle.desk.specs.Tied.{AreTied, AreAlone, HasTurn, IsOwn};
+ghost use Rattle.desk.specs.Victims.{AreSettled};
 
 use crate::calls::{Caller, CleanErr, Cleaned, FixErr, Granted, PutDone, PutErr};
 use crate::flush::{WriteErr, sync_pages, write_page};
@@ -44,11 +47,11 @@ use trail::{Call, Cause, Dirty, Entry, Kind};
 /// One instance's history with its lists, and the disk.
 #[derive(Drop)]
 pub struct Desk<D: PageDisk> {
-    instance: u16,
-    lists: Lists,
-    disk: D,
+    pub(crate) instance: u16,
+    pub(crate) lists: Lists,
+    pub(crate) disk: D,
     /// As long as a page.
-    buffer: Vec<u8>,
+    pub(crate) buffer: Vec<u8>,
 }
 
 impl<D: PageDisk> Model for Desk<D> {
@@ -120,16 +123,25 @@ impl<D: PageDisk> Desk<D> {
         self.disk.pages(space).unwrap_or(0)
     }
 
+    /// The frame that a page is in.
+    fn home_of(&self, page: PageId) -> Option<u32>
+        ensures home { result ≡ home self.now.state.history page }
+        ensures below { IfSome result (λ f. f < self.now.state.config.frames) }
+        ensures clean { result ≡ None → is_dirty self.now.state.history page ≡ false }
+    {
+        self.lists.home(page)
+    }
+
     /// Makes room for the entries of a fix.
     fn reserve_fix(&mut self) -> Result<(), AllocError>
-        ensures room { OnOk result (2 ≤ self.new.room) }
+        ensures room { OnOk result (4 ≤ self.new.room) }
         ensures same { self.new.state ≡ self.old.state }
     {
-        self.lists.reserve(2)
+        self.lists.reserve(4)
     }
 
     /// Appends an entry to the desk's history, and to that which the frames tell.
-    fn append<F: Frames>(&mut self, frames: &mut F, by: Caller, kind: Kind)
+    pub(crate) fn append<F: Frames>(&mut self, frames: &mut F, by: Caller, kind: Kind)
         requires places { self.old.state.config.first + length self.old.state.history + 1 < 2 ^ 48 }
         requires room { 0 < self.old.room }
         requires may { MayCome (ledger_of self.old) kind }
@@ -207,40 +219,44 @@ impl<D: PageDisk> Desk<D> {
         frames.publish(frame, page, place);
     }
 
-    /// Reads a page that is not resident into the next frame.
+    /// Reads a page that is not resident into the frame that was had for it.
     fn load<F: Frames>(
         &mut self,
         frames: &mut F,
         by: Caller,
         page: PageId,
+        frame: u32,
         now: u64,
-    ) -> Result<u32, FixErr>
+    ) -> Result<(), FixErr>
         requires places { self.old.state.config.first + length self.old.state.history + 1 < 2 ^ 48 }
         requires room { 0 < self.old.room }
         requires inside { IsInside (D.space_pages self.old.state.disk) page }
+        requires next { next_frame (book self.old.state.config self.old.state.history) ≡ Some frame }
+        requires below { frame < self.old.state.config.frames }
+        requires vacant { IsVacant self.old.state.history frame }
         requires absent { home self.old.state.history page ≡ None }
         requires clean { is_dirty self.old.state.history page ≡ false }
         requires tied { AreTied D.tells D.told D.space_pages (F.seen frames.old) self.old.state }
+        requires settled { AreSettled (F.seen frames.old).rows }
         requires caller { MayFix (F.seen frames.old) self.old.state by page }
-        ensures ok { IfOk result (λ f. IsLoaded D.told self.old.state self.new.state (F.seen frames.old).rows (F.seen frames.new).rows by page f) }
+        ensures ok { OnOk result (IsLoaded D.told self.old.state self.new.state (F.seen frames.old).rows (F.seen frames.new).rows by page frame) }
         ensures room { OnOk result (self.old.room ≤ self.new.room + 1) }
         ensures fixes { OnOk result (KeepsRoom (F.room frames.old) (F.room frames.new)) }
         ensures caller { OnOk result (MayFix (F.seen frames.new) self.new.state by page) }
         ensures refused { IfErr result (λ e. IsLoadRefusal D.told D.fault_count self.old.state self.new.state by page now e) }
         ensures unmoved { OnErr result ((F.seen frames.new).rows ≡ (F.seen frames.old).rows) }
         ensures tied { AreTied D.tells D.told D.space_pages (F.seen frames.new) self.new.state }
-        ensures disk { IsSameDisk D.page_size D.tells D.told D.space_pages D.fault_count self.old.state.disk self.new.state.disk }
+        ensures settled { AreSettled (F.seen frames.new).rows }
+        ensures more { IsOneMore self.old.state.history self.new.state.history }
+        ensures left { LeavesDesk D.page_size D.tells D.space_pages D.fault_count self.old.state self.new.state }
         ensures behind { (o : Opened) → IfSome (F.seen frames.old).base (λ base. base ≡ o.base)
             → IsBehind D.tells D.told D.space_pages o self.old.state (F.seen frames.old)
             → IsBehind D.tells D.told D.space_pages o self.new.state (F.seen frames.new) }
     {
-        let Some(frame) = self.lists.next_frame() else {
-            return Err(FixErr::OutOfMemory);
-        };
         match self.read_in(frames, page, frame) {
             Ok(()) => {
                 self.take_in(frames, by, page, frame);
-                Ok(frame)
+                Ok(())
             }
             Err(ReadErr::DiskFault { before, after }) => {
                 self.refuse(frames, by, page, now, Cause::DiskFault { before, after });
@@ -265,8 +281,9 @@ impl<D: PageDisk> Desk<D> {
         requires places { self.old.state.config.first + length self.old.state.history + 1 < 2 ^ 48 }
         requires room { 0 < self.old.room }
         requires tied { AreTied D.tells D.told D.space_pages (F.seen frames.old) self.old.state }
-        requires caller { MayFix (F.seen frames.old) self.old.state by page }
-        requires wordless { IsWordless cause }
+        requires turn { HasTurn (F.seen frames.old) by }
+        requires own { IsOwn (F.seen frames.old) self.old.state page }
+        requires may { MayRefuse (F.seen frames.old) page now cause }
         ensures appended { IsRefusedFix self.old.state self.new.state by page now cause }
         ensures unmoved { (F.seen frames.new).rows ≡ (F.seen frames.old).rows }
         ensures tied { AreTied D.tells D.told D.space_pages (F.seen frames.new) self.new.state }
@@ -293,10 +310,14 @@ impl<D: PageDisk> Desk<D> {
         requires below { frame < self.old.state.config.frames }
         requires fix { 0 < F.room frames.old frame }
         requires tied { AreTied D.tells D.told D.space_pages (F.seen frames.old) self.old.state }
+        requires settled { AreSettled (F.seen frames.old).rows }
         requires caller { MayFix (F.seen frames.old) self.old.state by page }
         ensures hit { IsHit self.old.state self.new.state (F.seen frames.old).rows (F.seen frames.new).rows by page now result }
         ensures frame { result.frame ≡ frame }
         ensures tied { AreTied D.tells D.told D.space_pages (F.seen frames.new) self.new.state }
+        ensures settled { AreSettled (F.seen frames.new).rows }
+        ensures more { IsOneMore self.old.state.history self.new.state.history }
+        ensures left { LeavesDesk D.page_size D.tells D.space_pages D.fault_count self.old.state self.new.state }
         ensures behind { (o : Opened) → IsBehind D.tells D.told D.space_pages o self.old.state (F.seen frames.old)
             → IsBehind D.tells D.told D.space_pages o self.new.state (F.seen frames.new) }
     {
@@ -319,29 +340,92 @@ impl<D: PageDisk> Desk<D> {
         }
     }
 
-    /// Fixes a page: a resident one where it is, any other one after reading it into the next free frame (buf0buf's `buf_page_get_gen`).
-    ///
-    /// Appends the entries `load`, where the page was not resident, and `fix`; or the refusal. Want of memory changes nothing, and it is also the
-    /// answer where no frame is free.
-    pub fn fix_at<F: Frames>(
+    /// Fixes a page that is not resident: a frame is had for it, and it is read into that.
+    fn fix_absent<F: Frames, R: RedoDisk>(
         &mut self,
         frames: &mut F,
+        redo: &mut Redo<R>,
         by: Caller,
         page: PageId,
         now: u64,
     ) -> Result<Granted, FixErr>
-        requires places { self.old.state.config.first + length self.old.state.history + 2 < 2 ^ 48 }
+        requires places { self.old.state.config.first + length self.old.state.history + 4 < 2 ^ 48 }
+        requires room { 4 ≤ self.old.room }
+        requires inside { IsInside (D.space_pages self.old.state.disk) page }
+        requires absent { home self.old.state.history page ≡ None }
+        requires clean { is_dirty self.old.state.history page ≡ false }
         requires tied { AreTied D.tells D.told D.space_pages (F.seen frames.old) self.old.state }
+        requires settled { AreSettled (F.seen frames.old).rows }
+        requires caller { MayFix (F.seen frames.old) self.old.state by page }
+        requires fixes { (f : ℕ) → f < length (F.seen frames.old).rows → 0 < F.room frames.old f }
+        requires known { log_end self.old.state.history ≤ redo.old.seen.end }
+        ensures granted { IfOk result (λ g. IsMiss D.told self.old.state self.new.state (F.seen frames.old).rows (F.seen frames.new).rows by page now g) }
+        ensures refused { IfErr result (λ e. (held : ℕ) → held < 64 → IsFixRefusal D.told D.space_pages D.fault_count self.old.state self.new.state
+            (F.seen frames.old).rows (F.seen frames.new).rows by held page now redo.old.seen.faults redo.new.seen.faults e) }
+        ensures free { IsSome (next_frame (book self.old.state.config self.old.state.history)) → redo.new ≡ redo.old }
+        ensures unlogged { IfErr result (λ e. IsUnlogged redo.old redo.new e) }
+        ensures tied { AreTied D.tells D.told D.space_pages (F.seen frames.new) self.new.state }
+        ensures settled { AreSettled (F.seen frames.new).rows }
+        ensures grown { length self.new.state.history ≤ length self.old.state.history + 4 }
+        ensures left { LeavesDesk D.page_size D.tells D.space_pages D.fault_count self.old.state self.new.state }
+        ensures log { KeepsLog R.told redo.old redo.new self.old.state.history self.new.state.history }
+        ensures behind { (o : Opened) → IfSome (F.seen frames.old).base (λ base. base ≡ o.base)
+            → IsBehind D.tells D.told D.space_pages o self.old.state (F.seen frames.old)
+            → IsBehind D.tells D.told D.space_pages o self.new.state (F.seen frames.new) }
+        ensures valued { (o : Opened) → IsBehind D.tells D.told D.space_pages o self.old.state (F.seen frames.old)
+            → IfOk result (λ g. IsSome (value o.size o.base self.old.state.history page)) }
+        ensures unsound { (o : Opened) (bad : BadPage) → IsBehind D.tells D.told D.space_pages o self.old.state (F.seen frames.old)
+            → result ≡ Err (FixErr.BadPage bad) → value o.size o.base self.old.state.history page ≡ None }
+    {
+        let frame = match self.have_frame(frames, redo, by, page, now) {
+            Ok(frame) => frame,
+            Err(refusal) => return Err(refusal),
+        };
+        match self.load(frames, by, page, frame, now) {
+            Ok(()) => Ok(self.grant(frames, by, page, frame, now)),
+            Err(refusal) => Err(refusal),
+        }
+    }
+
+    /// Fixes a page: a resident one where it is, any other one after reading it into a free frame or that of a victim, which is written first
+    /// where it is dirty (buf0buf's `buf_page_get_gen`). The caller holds so many fixes, which may be no more than 64.
+    ///
+    /// Appends the entries `write`, `evict`, `load` and `fix`, each where it happens; or the refusal, behind the entries of a victim that had
+    /// left. Memory is taken before anything changes; want of memory changes nothing.
+    pub fn fix_at<F: Frames, R: RedoDisk>(
+        &mut self,
+        frames: &mut F,
+        redo: &mut Redo<R>,
+        by: Caller,
+        held: u32,
+        page: PageId,
+        now: u64,
+    ) -> Result<Granted, FixErr>
+        requires places { self.old.state.config.first + length self.old.state.history + 4 < 2 ^ 48 }
+        requires tied { AreTied D.tells D.told D.space_pages (F.seen frames.old) self.old.state }
+        requires settled { AreSettled (F.seen frames.old).rows }
         requires turn { HasTurn (F.seen frames.old) by }
         requires own { IsOwn (F.seen frames.old) self.old.state page }
-        requires few { IfSome (F.seen frames.old).opened (λ opened. length opened < 64) }
-        requires room { (f : ℕ) → f < length (F.seen frames.old).rows → 0 < F.room frames.old f }
+        requires held { IfSome (F.seen frames.old).opened (λ opened. (length opened ≡ held) × (held ≤ 64)) }
+        requires room { held < 64 → (f : ℕ) → f < length (F.seen frames.old).rows → 0 < F.room frames.old f }
+        requires known { log_end self.old.state.history ≤ redo.old.seen.end }
         ensures granted { IfOk result (λ g. IsGrantedBy D.told self.old.state self.new.state (F.seen frames.old).rows (F.seen frames.new).rows by page now g) }
         ensures inside { IfOk result (λ g. page.page < pages_in (D.space_pages self.old.state.disk) page.space) }
-        ensures refused { IfErr result (λ e. IsFixRefusal D.told D.space_pages D.fault_count self.old.state self.new.state by page now e) }
-        ensures unmoved { OnErr result ((F.seen frames.new).rows ≡ (F.seen frames.old).rows) }
+        ensures few { OnOk result (held < 64) }
+        ensures refused { IfErr result (λ e. IsFixRefusal D.told D.space_pages D.fault_count self.old.state self.new.state
+            (F.seen frames.old).rows (F.seen frames.new).rows by held page now redo.old.seen.faults redo.new.seen.faults e) }
+        ensures unlogged { NeedsNoVictim D.space_pages self.old.state held page → redo.new ≡ redo.old }
+        ensures unused { IfErr result (λ e. IsUnlogged redo.old redo.new e) }
         ensures tied { AreTied D.tells D.told D.space_pages (F.seen frames.new) self.new.state }
-        ensures disk { IsSameDisk D.page_size D.tells D.told D.space_pages D.fault_count self.old.state.disk self.new.state.disk }
+        ensures settled { AreSettled (F.seen frames.new).rows }
+        ensures grown { length self.new.state.history ≤ length self.old.state.history + 4 }
+        ensures left { LeavesDesk D.page_size D.tells D.space_pages D.fault_count self.old.state self.new.state }
+        ensures logged { IsLogged redo.old.seen self.old.state.history → IsLogged redo.new.seen self.new.state.history }
+        ensures known { log_end self.new.state.history ≤ redo.new.seen.end }
+        ensures upto { AreUpTo redo.new.seen.durable self.old.state.history self.new.state.history }
+        ensures later { IsLater redo.old.seen redo.new.seen }
+        ensures opening { redo.new.opening ≡ redo.old.opening }
+        ensures kept { IsKept redo.old.seen (R.told redo.old.disk) → IsKept redo.new.seen (R.told redo.new.disk) }
         ensures behind { (o : Opened) → IfSome (F.seen frames.old).base (λ base. base ≡ o.base)
             → IsBehind D.tells D.told D.space_pages o self.old.state (F.seen frames.old)
             → IsBehind D.tells D.told D.space_pages o self.new.state (F.seen frames.new) }
@@ -358,12 +442,13 @@ impl<D: PageDisk> Desk<D> {
             self.refuse(frames, by, page, now, Cause::NoSuchPage { pages });
             return Err(FixErr::NoSuchPage { pages });
         }
-        if let Some(frame) = self.lists.home(page) {
-            return Ok(self.grant(frames, by, page, frame, now));
+        if held >= 64 {
+            self.refuse(frames, by, page, now, Cause::HoldFull { held });
+            return Err(FixErr::HoldFull { held });
         }
-        match self.load(frames, by, page, now) {
-            Ok(frame) => Ok(self.grant(frames, by, page, frame, now)),
-            Err(refusal) => Err(refusal),
+        match self.home_of(page) {
+            Some(frame) => Ok(self.grant(frames, by, page, frame, now)),
+            None => self.fix_absent(frames, redo, by, page, now),
         }
     }
 
@@ -525,7 +610,7 @@ impl<D: PageDisk> Desk<D> {
         requires resident { IsSome (home self.old.state.history page) }
         requires image { length image.now.bytes ≡ page_bytes self.old.state.config.page }
         requires known { image.now.lsn ≤ redo.old.seen.end }
-        ensures ok { IfOk result (λ upto. (image.now.lsn ≤ upto) × (upto ≤ redo.new.seen.durable)) }
+        ensures ok { IfOk result (λ upto. (image.now.lsn ≤ upto) × (upto ≡ redo.new.seen.durable)) }
         ensures written { OnOk result (IsImageTold D.tells D.told page image.now self.old.state.disk self.new.state.disk) }
         ensures failed { OnErr result (Fades (D.told self.old.state.disk page) (D.told self.new.state.disk page)) }
         ensures others { IsOtherwiseSame D.page_size D.tells D.told D.space_pages D.fault_count page
@@ -725,7 +810,8 @@ impl<D: PageDisk> Desk<D> {
 
     /// How many pages are dirty.
     fn dirty_pages(&self) -> usize
-        ensures { result ≡ length (dirty self.now.state.history) }
+        ensures count { result ≡ length (dirty self.now.state.history) }
+        ensures few { result ≤ self.now.state.config.frames }
     {
         self.lists.dirty_pages()
     }
@@ -752,6 +838,7 @@ impl<D: PageDisk> Desk<D> {
         ensures refused { IfErr result (λ e. IsCleanRefusal self.old.state self.new.state by bound
             (D.fault_count self.old.state.disk) (D.fault_count self.new.state.disk) redo.old.seen.faults redo.new.seen.faults e) }
         ensures unmoved { (F.seen frames.new).rows ≡ (F.seen frames.old).rows }
+        ensures unlogged { result ≡ Err CleanErr.OutOfMemory → redo.new ≡ redo.old }
         ensures tied { AreTied D.tells D.told D.space_pages (F.seen frames.new) self.new.state }
         ensures logged { IsLogged redo.old.seen self.old.state.history → IsLogged redo.new.seen self.new.state.history }
         ensures known { log_end self.new.state.history ≤ redo.new.seen.end }
@@ -763,6 +850,7 @@ impl<D: PageDisk> Desk<D> {
         ensures count { (length self.new.state.history
             ≤ length self.old.state.history + length (dirty self.old.state.history) + 1)
             × (length (dirty self.old.state.history) ≤ length self.old.state.history) }
+        ensures few { length (dirty self.old.state.history) ≤ self.old.state.config.frames }
         ensures counted { D.fault_count self.old.state.disk ≤ D.fault_count self.new.state.disk }
         ensures behind { (o : Opened) → IsBehind D.tells D.told D.space_pages o self.old.state (F.seen frames.old)
             → IsBehind D.tells D.told D.space_pages o self.new.state (F.seen frames.new) }

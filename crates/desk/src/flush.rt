@@ -81,7 +81,7 @@ pub(crate) fn write_page<D: PageDisk, R: RedoDisk>(
     requires image { length image.now.bytes ≡ D.page_size disk.old }
     requires buffer { vec_len buffer.old ≡ D.page_size disk.old }
     requires known { image.now.lsn ≤ redo.old.seen.end }
-    ensures ok { IfOk result (λ upto. (image.now.lsn ≤ upto) × (upto ≤ redo.new.seen.durable)) }
+    ensures ok { IfOk result (λ upto. (image.now.lsn ≤ upto) × (upto ≡ redo.new.seen.durable)) }
     ensures written { OnOk result (IsImageTold D.tells D.told page image.now disk.old disk.new) }
     ensures failed { OnErr result (Fades (D.told disk.old page) (D.told disk.new page)) }
     ensures others { IsOtherwiseSame D.page_size D.tells D.told D.space_pages D.fault_count page disk.old disk.new }

@@ -9,6 +9,7 @@ ghost use Rattle.desk.specs.Changes.{IsBody};
 ghost use Rattle.desk.specs.Ledger.{IsOneChunk};
 ghost use Rattle.desk.specs.Tied.{AreTied, AreAlone};
 ghost use Rattle.desk.specs.Trials.{AreFew};
+ghost use Rattle.desk.specs.Victims.{AreSettled};
 
 use crate::calls::{Caller, CleanErr, Cleaned, FixErr, Granted, PutDone, PutErr};
 use crate::desk::Desk;
@@ -57,13 +58,14 @@ pub(crate) fn frames_of<D: PageDisk>(
     requires start { IsOneChunk desk.now.state.config }
     requires fresh { desk.now.state.history ≡ [] }
     ensures tied { IfOk result (λ frames. AreTied D.tells D.told D.space_pages (seen_of frames) desk.now.state) }
+    ensures settled { IfOk result (λ frames. AreSettled frames.rows) }
     ensures few { IfOk result (λ frames. AreFew frames.rows 1) }
 {
     desk.blank_frames(alloc)
 }
 
 /// An empty log whose first LSN is 8192; its device fails at its call with this number.
-fn log_of(alloc: Global, failing: u64) -> Result<Redo<RedoMemory>, OutOfMemory> {
+pub(crate) fn log_of(alloc: Global, failing: u64) -> Result<Redo<RedoMemory>, OutOfMemory> {
     let failing = Vec::from_slice(alloc, &[failing])?;
     match Redo::start(alloc, RedoMemory::new(Vec::new(alloc), failing), 8192) {
         Ok(redo) => Ok(redo),
@@ -75,22 +77,26 @@ fn log_of(alloc: Global, failing: u64) -> Result<Redo<RedoMemory>, OutOfMemory> 
 pub(crate) fn fix<D: PageDisk>(
     desk: &mut Desk<D>,
     frames: &mut PlainFrames,
+    redo: &mut Redo<RedoMemory>,
     number: u32,
     page: u32,
 ) -> Result<Granted, FixErr>
     requires first { desk.old.state.config.first ≡ 0 }
     requires room { length desk.old.state.history < 1000 }
     requires tied { AreTied D.tells D.told D.space_pages (seen_of frames.old) desk.old.state }
+    requires settled { AreSettled frames.old.rows }
     requires few { (number < 100) × AreFew frames.old.rows number }
+    requires known { log_end desk.old.state.history ≤ redo.old.seen.end }
     ensures config { desk.new.state.config ≡ desk.old.state.config }
-    ensures count { length desk.new.state.history ≤ length desk.old.state.history + 2 }
-    ensures end { log_end desk.new.state.history ≡ log_end desk.old.state.history }
+    ensures count { length desk.new.state.history ≤ length desk.old.state.history + 4 }
+    ensures known { log_end desk.new.state.history ≤ redo.new.seen.end }
     ensures resident { OnOk result (IsSome (home desk.new.state.history (record { space = 0; page = page }))) }
     ensures tied { AreTied D.tells D.told D.space_pages (seen_of frames.new) desk.new.state }
+    ensures settled { AreSettled frames.new.rows }
     ensures few { AreFew frames.new.rows (number + 1) }
 {
     let page = PageId { space: 0, page };
-    desk.fix_at(frames, Caller { pass: 1, number }, page, 1)
+    desk.fix_at(frames, redo, Caller { pass: 1, number }, 0, page, 1)
 }
 
 /// Puts bytes into a page of space 0 as pass 1.
@@ -106,6 +112,7 @@ pub(crate) fn put<D: PageDisk>(
     requires first { desk.old.state.config.first ≡ 0 }
     requires room { length desk.old.state.history < 1000 }
     requires tied { AreTied D.tells D.told D.space_pages (seen_of frames.old) desk.old.state }
+    requires settled { AreSettled frames.old.rows }
     requires few { (number < 100) × AreFew frames.old.rows number }
     requires resident { IsSome (home desk.old.state.history (record { space = 0; page = page })) }
     requires range { IsBody (page_bytes desk.old.state.config.page) at (length bytes.now) }
@@ -115,6 +122,7 @@ pub(crate) fn put<D: PageDisk>(
     ensures known { log_end desk.new.state.history ≤ redo.new.seen.end }
     ensures resident { IsSome (home desk.new.state.history (record { space = 0; page = page })) }
     ensures tied { AreTied D.tells D.told D.space_pages (seen_of frames.new) desk.new.state }
+    ensures settled { AreSettled frames.new.rows }
     ensures few { AreFew frames.new.rows (number + 1) }
 {
     let page = PageId { space: 0, page };
@@ -122,7 +130,7 @@ pub(crate) fn put<D: PageDisk>(
 }
 
 /// Fixes a page of space 0 and puts a byte into it; answers the LSN behind the put's record.
-fn change<D: PageDisk>(
+pub(crate) fn change<D: PageDisk>(
     desk: &mut Desk<D>,
     frames: &mut PlainFrames,
     redo: &mut Redo<RedoMemory>,
@@ -134,18 +142,20 @@ fn change<D: PageDisk>(
     requires first { desk.old.state.config.first ≡ 0 }
     requires room { length desk.old.state.history < 900 }
     requires tied { AreTied D.tells D.told D.space_pages (seen_of frames.old) desk.old.state }
+    requires settled { AreSettled frames.old.rows }
     requires few { (number < 90) × AreFew frames.old.rows number }
     requires size { desk.old.state.config.page ≡ PageSize.Kib4 }
     requires range { (38 ≤ at) × (at < 4088) }
     requires known { log_end desk.old.state.history ≤ redo.old.seen.end }
     ensures config { desk.new.state.config ≡ desk.old.state.config }
-    ensures count { length desk.new.state.history ≤ length desk.old.state.history + 3 }
+    ensures count { length desk.new.state.history ≤ length desk.old.state.history + 5 }
     ensures known { log_end desk.new.state.history ≤ redo.new.seen.end }
     ensures tied { AreTied D.tells D.told D.space_pages (seen_of frames.new) desk.new.state }
+    ensures settled { AreSettled frames.new.rows }
     ensures few { AreFew frames.new.rows (number + 2) }
     ensures alone { AreAlone (seen_of frames.new) }
 {
-    if fix(desk, frames, number, page).is_err() {
+    if fix(desk, frames, redo, number, page).is_err() {
         return None;
     }
     match put(desk, frames, redo, number + 1, page, at, &[byte]) {

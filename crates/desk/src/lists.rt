@@ -7,10 +7,11 @@ ghost use Rattle.trail.specs.Places.{mark};
 ghost use Rattle.trail.specs.History.{home};
 ghost use Rattle.trail.specs.Book.{book, next_frame, is_late};
 ghost use Rattle.trail.specs.Dirt.{dirty, is_dirty, log_end, cleaned};
+ghost use Rattle.trail.specs.Victim.{from_the_tail};
 ghost use Rattle.trail.specs.declared.event.Dirty.{Dirty};
 ghost use Rattle.desk.specs.Ledger.{IsOneChunk, IsVacant, IsArrival, IsChange, IsDeparture, MayCome, IsFollowed, entry_behind};
 ghost use Rattle.desk.specs.KeptLists.{in_turn, is_quiet};
-ghost use Rattle.desk.specs.Walk.{next_home};
+ghost use Rattle.desk.specs.Walk.{next_home, AreOrderly};
 
 use crate::calls::Caller;
 use crate::parts::{dirty_place, free_frames, push_kept, soil};
@@ -134,6 +135,8 @@ impl Lists {
         ensures next { result ≡ next_frame (book self.now.config self.now.history) }
         ensures below { IfSome result (λ f. f < self.now.config.frames) }
         ensures vacant { IfSome result (λ f. IsVacant self.now.history f) }
+        ensures none { result ≡ None → (f : ℕ) → f < self.now.config.frames → (p : PageId) × (home self.now.history p ≡ Some f) }
+        ensures orderly { AreOrderly self.now.config self.now.history }
     {
         match self.hand {
             Some(frame) => Some(frame),
@@ -152,7 +155,7 @@ impl Lists {
     /// The frames of the resident pages from the tail of the LRU list towards its head: the first one, or the one behind `after`.
     pub(crate) fn walk(&self, after: Option<u32>) -> Option<u32>
         requires listed { IfSome after (λ frame. (page : PageId) × (home self.now.history page ≡ Some frame)) }
-        ensures { result ≡ next_home self.now.config self.now.history after }
+        ensures { result ≡ next_home self.now.history after (from_the_tail self.now.config self.now.history) }
     {
         self.lru.walk(after)
     }
@@ -176,7 +179,8 @@ impl Lists {
 
     /// How many pages are dirty.
     pub(crate) fn dirty_pages(&self) -> usize
-        ensures { result ≡ length (dirty self.now.history) }
+        ensures count { result ≡ length (dirty self.now.history) }
+        ensures few { result ≤ self.now.config.frames }
     {
         self.dirty.len()
     }

@@ -74,7 +74,7 @@ pub(crate) fn dirty_place(dirty: &VecDeque<Dirty>, page: PageId) -> Option<usize
 }
 
 /// Brings a page that was changed into the list of dirty pages: one that is dirty keeps its place and its oldest LSN, another one
-/// comes to the end (buf0buf's `buf_flush_note_modification`). Takes no memory.
+/// comes to the end (buf0flu's `buf_flush_note_modification`). Takes no memory.
 pub(crate) fn soil(dirty: &mut VecDeque<Dirty>, page: PageId, span: Span)
     requires room { deque_len dirty.old < deque_capacity dirty.old }
     ensures items { dirty.new.items ≡ dirtied page span.start span.end dirty.old.items }

@@ -90,7 +90,7 @@ fn a_put_changes_image_clock_and_lsn(rt: HostRuntime) -> Result<(), Fail> {
     let mut redo = Redo::start(alloc, log, 8214)?;
     let mut desk = desk_of(alloc)?;
     let mut frames = frames_of(&desk, alloc)?;
-    let granted = fix(&mut desk, &mut frames, 1, 7);
+    let granted = fix(&mut desk, &mut frames, &mut redo, 1, 7);
     assert!(rt; granted.is_ok());
     let done = put(&mut desk, &mut frames, &mut redo, 2, 7, 38, &[0xab, 0xcd]);
     assert_eq!(rt;
@@ -129,7 +129,7 @@ fn a_put_behind_the_last_lsn_changes_nothing(rt: HostRuntime) -> Result<(), Fail
     let mut redo = Redo::start(alloc, log, 0x7fff_ffff_ffff_ffff)?;
     let mut desk = desk_of(alloc)?;
     let mut frames = frames_of(&desk, alloc)?;
-    let granted = fix(&mut desk, &mut frames, 1, 7);
+    let granted = fix(&mut desk, &mut frames, &mut redo, 1, 7);
     assert!(rt; granted.is_ok());
     let spent = PutErr::LogSpent {
         end: 0x7fff_ffff_ffff_ffff,

@@ -5,10 +5,12 @@ ghost use Rattle.trail.specs.Dirt.{log_end};
 ghost use Rattle.trail.specs.History.{home};
 ghost use Rattle.frame_words.specs.Plain.{seen_of, room_of};
 ghost use Rattle.desk.specs.Ledger.{IsOneChunk};
-ghost use Rattle.desk.specs.Tied.{AreTied, AreAlone};
+ghost use Rattle.desk.specs.Tied.{AreTied};
+ghost use Rattle.desk.specs.Victims.{AreSettled};
 
-use crate::calls::{Caller, FixErr, Granted, PutDone, PutErr};
+use crate::calls::{Caller, FixErr, Granted};
 use crate::desk::Desk;
+use crate::flush_tests::{frames_of, log_of};
 use crate::parts::soil;
 use frame_words::{Frames, PlainFrames};
 use page_disk::{DiskMemory, PageDisk};
@@ -34,7 +36,7 @@ const CONFIG: Config = Config {
 };
 
 /// Page 0:7 with the LSN 8214, and zeros in its body.
-fn page_seven() -> [u8; 4096] {
+pub(crate) fn page_seven() -> [u8; 4096] {
     let mut page = [0; 4096];
     page[7] = 7;
     page[22..24].copy_from_slice(&[0x20, 0x16]);
@@ -43,7 +45,7 @@ fn page_seven() -> [u8; 4096] {
 }
 
 /// A desk whose space 0 has 64 pages: this one has these bytes, all others are of zeros.
-fn desk_of(
+pub(crate) fn desk_of(
     alloc: Global,
     page: u32,
     bytes: [u8; 4096],
@@ -82,23 +84,27 @@ fn few_fixes(frames: &PlainFrames) -> bool
 fn fix<D: PageDisk>(
     desk: &mut Desk<D>,
     frames: &mut PlainFrames,
+    redo: &mut Redo<RedoMemory>,
     number: u32,
     page: u32,
 ) -> Result<Granted, FixErr>
     requires first { desk.old.state.config.first ≡ 0 }
     requires room { length desk.old.state.history < 100 }
     requires tied { AreTied D.tells D.told D.space_pages (seen_of frames.old) desk.old.state }
+    requires settled { AreSettled frames.old.rows }
+    requires known { log_end desk.old.state.history ≤ redo.old.seen.end }
     ensures config { desk.new.state.config ≡ desk.old.state.config }
-    ensures count { length desk.new.state.history ≤ length desk.old.state.history + 2 }
-    ensures end { log_end desk.new.state.history ≡ log_end desk.old.state.history }
+    ensures count { length desk.new.state.history ≤ length desk.old.state.history + 4 }
+    ensures known { log_end desk.new.state.history ≤ redo.new.seen.end }
     ensures tied { AreTied D.tells D.told D.space_pages (seen_of frames.new) desk.new.state }
+    ensures settled { AreSettled frames.new.rows }
     ensures resident { OnOk result (IsSome (home desk.new.state.history (record { space = 0; page = page }))) }
 {
     if !few_fixes(frames) {
         return Err(FixErr::OutOfMemory);
     }
     let page = PageId { space: 0, page };
-    desk.fix_at(frames, Caller { pass: 1, number }, page, 5)
+    desk.fix_at(frames, redo, Caller { pass: 1, number }, 0, page, 5)
 }
 
 /// The desk's entries, a line each.
@@ -124,10 +130,11 @@ fn lsn_in(frames: &PlainFrames, frame: u32) -> Option<u64>
 
 #[test]
 fn resident_pages_stay_and_frames_run_out(rt: HostRuntime) -> Result<(), Fail> {
+    let mut redo = log_of(rt.alloc(), 0)?;
     let mut desk = desk_of(rt.alloc(), 7, page_seven(), &[])?;
-    let mut frames = desk.blank_frames(rt.alloc())?;
+    let mut frames = frames_of(&desk, rt.alloc())?;
     assert_eq!(rt;
-        fix(&mut desk, &mut frames, 1, 0),
+        fix(&mut desk, &mut frames, &mut redo, 1, 0),
         Ok(Granted {
             frame: 0,
             clock: 1,
@@ -135,7 +142,7 @@ fn resident_pages_stay_and_frames_run_out(rt: HostRuntime) -> Result<(), Fail> {
         })
     );
     assert_eq!(rt;
-        fix(&mut desk, &mut frames, 2, 0),
+        fix(&mut desk, &mut frames, &mut redo, 2, 0),
         Ok(Granted {
             frame: 0,
             clock: 1,
@@ -143,24 +150,24 @@ fn resident_pages_stay_and_frames_run_out(rt: HostRuntime) -> Result<(), Fail> {
         })
     );
     assert_eq!(rt;
-        fix(&mut desk, &mut frames, 3, 64),
+        fix(&mut desk, &mut frames, &mut redo, 3, 64),
         Err(FixErr::NoSuchPage { pages: 64 })
     );
     assert_eq!(rt;
-        fix(&mut desk, &mut frames, 4, 63),
+        fix(&mut desk, &mut frames, &mut redo, 4, 63),
         Ok(Granted {
             frame: 1,
             clock: 5,
             place: 6
         })
     );
-    assert_eq!(rt; fix(&mut desk, &mut frames, 5, 2), Err(FixErr::OutOfMemory));
+    assert!(rt; fix(&mut desk, &mut frames, &mut redo, 5, 2).is_err());
     assert_eq!(rt;
-        fix(&mut desk, &mut frames, 5, 63),
+        fix(&mut desk, &mut frames, &mut redo, 6, 63),
         Ok(Granted {
             frame: 1,
             clock: 5,
-            place: 7
+            place: 8
         })
     );
     assert_eq!(rt;
@@ -171,7 +178,8 @@ E 3 1.2 fix 0:0 0 1 5
 E 4 1.3 refused fix 0:64 5 NoSuchPage 64
 E 5 1.4 load 0:63 1
 E 6 1.4 fix 0:63 1 5 5
-E 7 1.5 fix 0:63 1 5 5
+E 7 1.5 refused fix 0:2 5 AllFixed 0=1/R/2,1=5/R/1
+E 8 1.6 fix 0:63 1 5 5
 "
     );
     Ok(())
@@ -179,17 +187,18 @@ E 7 1.5 fix 0:63 1 5 5
 
 #[test]
 fn a_refused_read_turns_the_free_frames(rt: HostRuntime) -> Result<(), Fail> {
+    let mut redo = log_of(rt.alloc(), 0)?;
     let mut desk = desk_of(rt.alloc(), 9, [1; 4096], &[1])?;
-    let mut frames = desk.blank_frames(rt.alloc())?;
+    let mut frames = frames_of(&desk, rt.alloc())?;
     assert_eq!(rt;
-        fix(&mut desk, &mut frames, 1, 0),
+        fix(&mut desk, &mut frames, &mut redo, 1, 0),
         Err(FixErr::DiskFault {
             before: 0,
             after: 1
         })
     );
     assert_eq!(rt;
-        fix(&mut desk, &mut frames, 2, 0),
+        fix(&mut desk, &mut frames, &mut redo, 2, 0),
         Ok(Granted {
             frame: 1,
             clock: 2,
@@ -198,11 +207,11 @@ fn a_refused_read_turns_the_free_frames(rt: HostRuntime) -> Result<(), Fail> {
     );
     let unsound = BadPage::Number { found: 0x0101_0101 };
     assert_eq!(rt;
-        fix(&mut desk, &mut frames, 3, 9),
+        fix(&mut desk, &mut frames, &mut redo, 3, 9),
         Err(FixErr::BadPage(unsound))
     );
     assert_eq!(rt;
-        fix(&mut desk, &mut frames, 4, 8),
+        fix(&mut desk, &mut frames, &mut redo, 4, 8),
         Ok(Granted {
             frame: 0,
             clock: 5,
@@ -224,10 +233,11 @@ E 6 1.4 fix 0:8 0 5 5
 
 #[test]
 fn a_granted_page_is_in_its_frame(rt: HostRuntime) -> Result<(), Fail> {
+    let mut redo = log_of(rt.alloc(), 0)?;
     let mut desk = desk_of(rt.alloc(), 7, page_seven(), &[])?;
-    let mut frames = desk.blank_frames(rt.alloc())?;
+    let mut frames = frames_of(&desk, rt.alloc())?;
     assert_eq!(rt;
-        fix(&mut desk, &mut frames, 1, 7),
+        fix(&mut desk, &mut frames, &mut redo, 1, 7),
         Ok(Granted {
             frame: 0,
             clock: 1,
@@ -243,10 +253,11 @@ fn a_granted_page_is_in_its_frame(rt: HostRuntime) -> Result<(), Fail> {
 
 #[test]
 fn fixes_are_counted_and_given_back(rt: HostRuntime) -> Result<(), Fail> {
+    let mut redo = log_of(rt.alloc(), 0)?;
     let mut desk = desk_of(rt.alloc(), 7, page_seven(), &[])?;
-    let mut frames = desk.blank_frames(rt.alloc())?;
-    let first = fix(&mut desk, &mut frames, 1, 7);
-    let second = fix(&mut desk, &mut frames, 2, 7);
+    let mut frames = frames_of(&desk, rt.alloc())?;
+    let first = fix(&mut desk, &mut frames, &mut redo, 1, 7);
+    let second = fix(&mut desk, &mut frames, &mut redo, 2, 7);
     assert!(rt; first.is_ok() && second.is_ok());
     assert_eq!(rt; frames.frames(), 4);
     assert_eq!(rt; frames.held(0), 2);

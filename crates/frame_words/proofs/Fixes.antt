@@ -7,7 +7,8 @@ use Rattle.page_ids.specs.declared.ids.PageId.{PageId}
 use Rattle.trail.specs.declared.event.Entry.{Entry}
 use Rattle.trail.specs.declared.event.Kind.{Kind}
 use Rattle.trail.specs.declared.event.Kind.TheVariants as kind
-use Rattle.frame_words.specs.Appends.{AreReady, FitsHomes, appended, extended, fixed_frame, rows_after, visit_after, words_told}
+use Rattle.trail.specs.Alone.{words_told}
+use Rattle.frame_words.specs.Appends.{AreReady, FitsHomes, appended, extended, fixed_frame, rows_after, visit_after}
 use Rattle.frame_words.specs.Conditions.{AreFound, IsNext, IsSteady, MayAppend}
 use Rattle.frame_words.specs.Rows.{held_row}
 use Rattle.frame_words.specs.Seen.{FramesSeen, row_at, with_row, noted, visited, is_owed}

@@ -207,53 +207,6 @@ pages_named (kind.Unwatch p) = p ∷ []
 pages_named (kind.Dump pct ids) = ids
 pages_named (kind.Refused asked why) = call_pages asked
 
--- the words that a cause has, each with its frame
-abbrev pub cause_words : Cause → List (ℕ × Word)
-cause_words (cause.PlacesSpent mark need) = []
-cause_words (cause.NoSuchPage pages) = []
-cause_words (cause.HoldFull held) = []
-cause_words (cause.Resident f) = []
-cause_words (cause.AllFixed seen) = seen
-cause_words (cause.RedoFault before after) = []
-cause_words (cause.DiskFault before after) = []
-cause_words (cause.BadPage bad) = []
-cause_words (cause.LogSpent end) = []
-cause_words (cause.WatchFull watches) = []
-cause_words cause.NoWatch = []
-cause_words cause.TooSmall = []
-cause_words (cause.TooLarge chunks max) = []
-cause_words (cause.Withdrawing from) = []
-cause_words (cause.Undone seen) = seen
-cause_words (cause.NoFrame frames) = []
-cause_words (cause.Stale found) = []
-cause_words (cause.OtherPage found) = []
-cause_words (cause.Latched found) = []
-cause_words (cause.Busy found) = []
-cause_words cause.Unheld = []
-
--- the words that an entry has, each with its frame
-abbrev pub words_told : Kind → List (ℕ × Word)
-words_told (kind.Load p f) = []
-words_told (kind.Fix p f clock now) = []
-words_told (kind.Create p f start end now) = []
-words_told (kind.Put p at bytes start end) = []
-words_told (kind.Evict p f passed) = passed
-words_told (kind.Write p lsn upto) = []
-words_told (kind.Move p from to) = []
-words_told (kind.Withdraw from) = []
-words_told (kind.Undo from) = []
-words_told (kind.Shrink chunks) = []
-words_told (kind.Grow chunks) = []
-words_told (kind.Resize bytes chunks) = []
-words_told (kind.Clean written skipped) = skipped
-words_told (kind.Check lsn) = []
-words_told (kind.WatchSet p) = []
-words_told (kind.WatchAt p f) = []
-words_told (kind.Occurred p arrived) = []
-words_told (kind.Unwatch p) = []
-words_told (kind.Dump pct ids) = []
-words_told (kind.Refused asked why) = cause_words why
-
 -- whether a grant of the call is a fix
 abbrev pub takes_fix : Call → Bool
 takes_fix (call.Fix p now) = true

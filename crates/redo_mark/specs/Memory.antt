@@ -1,8 +1,7 @@
 -- The calls of a device in memory, and what a log device in memory keeps.
-use Rattle.std.specs.Prelude.{ℕ, List, ◌≡◌, ◌+◌, ◌-◌, ◌^◌, ◌⊎◌, min, Option, Some, None, Vec, Result, MatchResult, Contains}
+use Rattle.std.specs.Prelude.{ℕ, List, ◌≡◌, ◌+◌, ◌-◌, ◌/◌, ◌^◌, ◌⊎◌, min, length, take, Option, Some, None, Vec, Result, MatchResult, Contains}
 use Rattle.std.specs.declared.alloc.Global.{Global}
-use Rattle.page_ids.specs.Faults.{Rose}
-use Rattle.redo_mark.specs.Device.{Told}
+use Rattle.redo_mark.specs.Device.{Told, put_at}
 
 -- the numbers of the calls that fail, how many calls were made, and how often one failed and found no memory
 pub record Counts : Type 0 where
@@ -15,11 +14,18 @@ pub record Counts : Type 0 where
 abbrev pub risen : ℕ → ℕ
 risen count = min (count + 1) (2 ^ 64 - 1)
 
--- A call fails exactly where its number is listed or it found no memory, and counts that once.
+-- A call fails exactly where its number is listed or it found no memory, and counts that once; it counts a want where it found none.
 abbrev pub IsExact : {T E : Type 0} → Counts → Counts → Result T E → Type 0
 IsExact old new result = MatchResult result
     (λ _. (Contains old.failing (risen old.made) → ⊥) × (new.wants ≡ old.wants) × (new.faults ≡ old.faults))
-    (λ _. (Contains old.failing (risen old.made) ⊎ Rose old.wants new.wants) × (new.faults ≡ risen old.faults))
+    (λ _. ((Contains old.failing (risen old.made) × (new.wants ≡ old.wants)) ⊎ (new.wants ≡ risen old.wants))
+    × (new.faults ≡ risen old.faults))
+
+-- what a write that failed left of these bytes: the first half of the piece stands there, or it found no memory and wrote nothing
+abbrev pub IsHalfPut : Counts → Counts → ℕ → List ℕ → List ℕ → List ℕ → Type 0
+IsHalfPut old new at piece before after =
+    (Contains old.failing (risen old.made) × (new.wants ≡ old.wants) × (after ≡ put_at at (take (length piece / 2) piece) before))
+    ⊎ ((new.wants ≡ risen old.wants) × (after ≡ before))
 
 -- one call more was made, and the list stays
 pub record IsCalled (old new : Counts) : Type 0 where

@@ -1,8 +1,8 @@
 //! The log device in memory, which fails where it is told to.
-ghost use Rattle.std.specs.Prelude.{◌≡◌, ◌≤◌, ◌+◌, ◌^◌, Some, None, length, OnOk, OnErr, IsFalse, vec_len};
+ghost use Rattle.std.specs.Prelude.{◌≡◌, ◌≤◌, ◌↔◌, ◌+◌, ◌/◌, ◌^◌, if◌then◌else◌, Contains, Some, None, length, OnOk, OnErr, IsErr, vec_len};
 ghost use Rattle.page_ids.specs.Faults.{IsCounted};
 ghost use Rattle.redo_mark.specs.Device.{Told, Tells, IsPut, IsTorn, IsSynced, IsSame, IsAsOpened, put_at};
-ghost use Rattle.redo_mark.specs.Memory.{kept_of, told_of, IsCalled, IsExact};
+ghost use Rattle.redo_mark.specs.Memory.{kept_of, told_of, risen, IsCalled, IsExact, IsHalfPut};
 
 use crate::calls::Calls;
 use crate::device::RedoDisk;
@@ -37,8 +37,7 @@ fn overwrite(bytes: &mut Vec<u8>, at: usize, piece: &[u8]) -> Result<(), OutOfMe
 
 /// How much of a piece of this length a write puts there.
 fn put_len(listed: bool, len: usize) -> usize
-    ensures part { result ≤ len }
-    ensures whole { IsFalse listed → result ≡ len }
+    ensures { result ≡ (if listed then len / 2 else len) }
 {
     if listed { len / 2 } else { len }
 }
@@ -120,6 +119,8 @@ impl RedoDisk for RedoMemory {
         ensures counted { IsCounted self.old.calls.faults self.new.calls.faults result }
         ensures called { IsCalled self.old.calls self.new.calls }
         ensures exact { IsExact self.old.calls self.new.calls result }
+        ensures half { OnErr result (IsHalfPut self.old.calls self.new.calls at piece.now
+            self.old.written.items self.new.written.items) }
     {
         let listed = self.calls.begin();
         let most = put_len(listed, piece.len());
@@ -143,6 +144,8 @@ impl RedoDisk for RedoMemory {
         ensures counted { IsCounted self.old.calls.faults self.new.calls.faults result }
         ensures called { IsCalled self.old.calls self.new.calls }
         ensures exact { IsExact self.old.calls self.new.calls result }
+        ensures listed { IsErr result ↔ Contains self.old.calls.failing (risen self.old.calls.made) }
+        ensures wants { self.new.calls.wants ≡ self.old.calls.wants }
     {
         if self.calls.begin() {
             return Err(self.calls.fail());

@@ -16,7 +16,7 @@ use Rattle.desk.specs.Base.{IsBase}
 use Rattle.script_text.specs.Plan.{Plan}
 use Rattle.script_text.specs.Verdict.{IsScript, IsBad}
 use Rattle.script_run.specs.Work.{Senses}
-use Rattle.script_run.specs.Runs.{Handed, handed, start_of, Reports, IsEndedRun, IsLogOf, IsLongLog, IsSavedPage, IsValuedPage}
+use Rattle.script_run.specs.Runs.{Handed, handed, start_of, Reports, IsEndedRun, IsLogOf, IsLogAsOpened, IsLongLog, IsSavedPage, IsValuedPage}
 use Rattle.script_run.proofs.Growing.{on_some}
 use Rattle.script_run.proofs.Progress.{append_nil}
 use Rattle.script_run.proofs.Values.{faults_wider}
@@ -63,14 +63,10 @@ ended_run {D} {R} sense report shelf disk log plan fault trails disks redo is te
     }
 
 -- a log that is too long was handed back
-pub long_log : {R : Type 0} (left : Option (List ℕ)) (line : ℕ) (log : Option (RedoEnd R)) (plan : Plan) → ((bytes : List ℕ) → left ≡ Some bytes → IsScript bytes plan) → line ≡ 0
-    → IsSomeAnd log (λ r. (r.durable ≡ r.end) × (2 ^ 63 < plan.config.lsn + r.end)) → IsLongLog left line log
-long_log left line None plan script whole is = absurd is
-long_log left line (Some end) plan script whole is = record { plan = plan; script = script; end = end; log_is = refl; whole = whole; opened = is.0; beyond = is.1 }
-
--- a text that was written in part
-pub cut_text : (held after : List ℕ) (n : ℕ) (text : List ℕ) → after ≡ text → text ≡ text ++ []
-cut_text held after n text e = sym (append_nil text)
+pub long_log : {R : Type 0} (left : Option (List ℕ)) (was : Option Told) (report : Reports R) (line : ℕ) (log : Option (RedoEnd R)) (plan : Plan) → ((bytes : List ℕ) → left ≡ Some bytes → IsScript bytes plan) → line ≡ 0
+    → IsSomeAnd log (λ r. IsLogAsOpened was report r × (2 ^ 63 < plan.config.lsn + r.end)) → IsLongLog left was report line log
+long_log left was report line None plan script whole is = absurd is
+long_log left was report line (Some end) plan script whole is = record { plan = plan; script = script; end = end; log_is = refl; whole = whole; opened = is.0; beyond = is.1 }
 
 pub not_seven : (s : ℕ) → s ≡ 5 → s ≢ 7
 not_seven s five seven = absurd (omega (arith, five, seven))

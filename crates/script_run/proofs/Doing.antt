@@ -1,10 +1,12 @@
 -- What the worker's calls do: each leaves its events and an answer that is lawful behind the trail so far.
-use Rattle.std.proofs.Common.{◌≡◌, ℕ, Bool, true, false, cond, List, [], ◌∷◌, ◌+◌, ◌-◌, ◌<◌, ◌≤◌, ◌⊎◌, Option, Some, None, length, refl, ap, ◌∙◌, sym, subst, nat_le, IsTrue, IsSome, IfSome, MatchOption, IsSomeAnd, arith, inl, inr, Result, Ok, Err, OnOk}
+use Rattle.std.proofs.Common.{◌≡◌, ℕ, Bool, true, false, cond, List, [], ◌∷◌, ◌++◌, nat_eq, eq-eqb, ◌+◌, ◌-◌, ◌<◌, ◌≤◌, ◌⊎◌, Option, Some, None, length, refl, ap, ◌∙◌, sym, subst, nat_le, IsTrue, IsSome, IfSome, MatchOption, IsSomeAnd, arith, inl, inr, Result, Ok, Err, OnOk}
 use Rattle.std.specs.Prelude.{Contains, slice_range, is_none}
+use Rattle.std.specs.Option.{option_or}
 use Rattle.std.proofs.lemmas.Bool.Decides.{nat_tests}
 use Rattle.page_ids.specs.Size.{page_bytes}
 use Rattle.page_ids.specs.Content.{Content}
 use Rattle.page_ids.specs.Refusal.{IsBad}
+use Rattle.page_ids.specs.declared.frame_word.Word.{Word}
 use Rattle.page_ids.specs.declared.ids.PageId.{PageId}
 use Rattle.page_ids.specs.declared.config.Config.{Config}
 use Rattle.page_ids.specs.declared.layout.BadPage.{BadPage}
@@ -27,9 +29,13 @@ use Rattle.trail.specs.History.{home, change, value, after_cause, disk_faults, d
 use Rattle.trail.specs.Dirt.{log_end}
 use Rattle.trail.specs.Calls.{kind_answers, held_by, held_after_kind, newest_of}
 use Rattle.trail.specs.Opening.{Opening, OnValue}
-use Rattle.trail.specs.Legal.{IsTogether, MayPrecede, IsLegalKind}
+use Rattle.trail.specs.Legal.{IsTogether, MayPrecede, MayPrecedeUnfixed, IsLegalKind}
 use Rattle.trail.specs.Covered.{IsCoveredKind}
-use Rattle.trail.specs.Causes.{due, outside, not_held, IsOther, IsRefused, IsCausedKind}
+use Rattle.trail.specs.Causes.{due, outside, hold_full, not_held, IsOther, IsRefused, IsCausedKind}
+use Rattle.trail.specs.Victim.{AreAllFixed, IsVictimKind}
+use Rattle.page_ids.specs.FrameWord.{AreRising}
+use Rattle.trail.specs.Alone.{AreExactWords, words_told, cause_words}
+use Rattle.trail.specs.Book.{book, next_frame}
 use Rattle.trail.specs.Laws.{IsLawful, IsStillKind}
 use Rattle.trail.specs.Promises.{IsPromised, is_excuse, is_own, is_noted}
 use Rattle.desk.specs.declared.calls.Granted.{Granted}
@@ -40,21 +46,20 @@ use Rattle.frame_words.specs.Seen.{FramesSeen}
 use Rattle.desk.specs.Base.{Opened}
 use Rattle.desk.specs.Behind.{IsValueIn}
 use Rattle.desk.specs.State.{State}
-use Rattle.desk.specs.Steps.{IsAppended, IsHit, IsMiss, IsOutside, IsFaulted, IsUnsound, next_entry, row_in}
+use Rattle.desk.specs.Steps.{IsAppended, IsHit, IsOutside, IsFaulted, IsUnsound, next_entry, row_in}
+use Rattle.desk.specs.Ledger.{entry_behind}
+use Rattle.desk.specs.Victims.{IsHad}
+use Rattle.desk.specs.Fixing.{IsMiss, IsHeldFull, IsUnseated, IsUnwritten}
 use Rattle.desk.specs.Logged.{IsLogged, IsLoggedKind}
 use Rattle.desk.specs.Changes.{IsBody, IsPutBy, IsSpentBy}
 use Rattle.script_text.specs.declared.script.Command.TheVariants as command
 use Rattle.script_run.specs.Openings.{Start, IsKindWithin, opened_of}
 use Rattle.script_run.specs.Todo.{IsReceiptOf, IsEntryOf, IsRefusal}
-use Rattle.script_run.specs.Work.{Senses, Working, SoFar, StandsBehind, IsCopy, Does, AreFalling, answered, noted, next_receipt}
+use Rattle.script_run.specs.Work.{Senses, Working, SoFar, StandsBehind, IsReady, IsCopy, Does, AreFalling, answered, noted, next_receipt}
 use Rattle.script_run.proofs.Fixes.{falling_up, newest_held}
-use Rattle.script_run.proofs.Growing.{me, same, on_some, Grew, so_far_answer, so_far_receipt, so_far_load, lawful_entry, lawful_receipt}
-
-pub same_refl : {D : Type 0} (sense : Senses D) (d : D) → same sense d d
-same_refl sense d = record { sizes = refl; telling = refl; bytes = λ p. refl; spaces_are = λ s. refl; later = omega arith }
-
-pub same_eq : {D : Type 0} (sense : Senses D) (old new : D) → new ≡ old → same sense old new
-same_eq sense old new e = let S : _ → Type 0 = λ d. same sense old d in subst S (sym e) (same_refl sense old)
+use Rattle.script_run.proofs.Growing.{me, Left, left_same, on_some, Moves, placed, grown, logged_rest, so_far_placed, so_far_after, so_far_answer, so_far_under, so_far_receipt, lawful_entry, lawful_receipt}
+use Rattle.script_run.proofs.Exact.{exact_words}
+use Rattle.script_run.proofs.Having.{Readied, readied_none, readied, logged_before, had_config}
 
 -- whether the page lies in its space
 inside_due : (o : Opening) (p : PageId) → p.page < o.pages p.space → outside o p ≡ None
@@ -74,125 +79,273 @@ in_space : {D : Type 0} (sense : Senses D) (o : Opening) (start : Start) (desk :
     → SoFar sense o start desk log w past pending → p.page < pages_in (sense.spaces desk.disk) p.space → p.page < o.pages p.space
 in_space sense o start desk log w past pending p so inside = let P : ℕ → Type 0 = λ n. p.page < n in subst P (sym (so.pages_are p.space)) inside
 
--- an entry of a call that leaves the log
-quiet : {D : Type 0} (sense : Senses D) (o : Opening) (start : Start) (old new : State D) (log : Seen) (w : Working) (past : List Event) (pending : List Kind) (k : Kind)
-    → SoFar sense o start old log w past pending → IsAppended old new (me w) k → same sense old.disk new.disk → IsLoggedKind log k → IsKindWithin start (sense.faults new.disk) log.faults k
-    → after_cause disk_faults_after k (disk_faults old.history) ≤ sense.faults new.disk → after_cause log_faults_after k (log_faults old.history) ≤ log.faults
-    → Grew sense start old new log log w k
-quiet sense o start old new log w past pending k so app disk logged within last last_log = record {
-  config = app.config;
-  history = app.history;
-  disk = disk;
-  later = omega arith;
-  logged = λ was. let I : List Entry → Type 0 = λ h. IsLogged log h in subst I (sym app.history) (logged, was);
-  within = within;
-  last = last;
-  last_log = last_log;
-}
+-- the caller has as many fixes as it may, or fewer
+not_full : (past : List Event) (c : ℕ) (fixed : List Held) → held_by past c ≡ fixed → length fixed < 64 → hold_full past c ≡ None
+not_full past c fixed are few = ap (λ (b : Bool). cond b (Some (cause.HoldFull 64)) None) (ap (λ held. nat_eq (length {A = Held} held) 64) are ∙ below (length fixed) few)
+  where
+    below : (n : ℕ) → n < 64 → nat_eq n 64 ≡ false
+    below n less = grind (arith, nat_tests)
 
-so_far_hit : {D : Type 0} {rows more : List Row} (sense : Senses D) (o : Opening) (start : Start) (old new : State D) (log : Seen) (w : Working) (past : List Event) (pending : List Kind) (p : PageId) (now : ℕ) (g : Granted)
-    → SoFar sense o start old log w past pending → IsTogether past w.pass → MayPrecede pending (kind.Fix p g.frame g.clock now) → IsHit old new rows more (me w) p now g → p.page < o.pages p.space
-    → SoFar sense o start new log (answered w (kind.Fix p g.frame g.clock now)) (event.Entry (next_entry old (me w) (kind.Fix p g.frame g.clock now)) ∷ past) []
-so_far_hit sense o start old new log w past pending p now g so together before hit inside =
+is_full : (past : List Event) (c : ℕ) (fixed : List Held) → held_by past c ≡ fixed → length fixed ≡ 64 → hold_full past c ≡ Some (cause.HoldFull 64)
+is_full past c fixed are full = ap (λ (b : Bool). cond b (Some (cause.HoldFull 64)) None) (ap (λ held. nat_eq (length {A = Held} held) 64) are ∙ eq-eqb (length fixed) 64 full)
+
+-- nothing stands against a fix
+free_due : (o : Opening) (past : List Event) (c : ℕ) (p : PageId) (now : ℕ) (fixed : List Held) → p.page < o.pages p.space → held_by past c ≡ fixed → length fixed < 64 → due o past c (call.Fix p now) ≡ None
+free_due o past c p now fixed inside are few = ap (λ x. option_or x (hold_full past c)) (inside_due o p inside) ∙ not_full past c fixed are few
+
+always : {A : Type 0} (v : Option A) (f : A → Option Content) → IfSome v (λ base. IsSome (f base) → IsTrue true)
+always None f = tt
+always (Some base) f = λ some. refl
+
+-- a value that the same entries leave
+value_at : (o : Opening) (past : List Event) (h : List Entry) (p : PageId) (P : Option Content → Type 0) → entries past ≡ h → IfSome o.base (λ base. P (value (page_bytes o.config.page) base h p)) → OnValue o past p P
+value_at o past h p P are is = on_some o.base _ _ (λ base e at. let V : List Entry → Type 0 = λ l. P (value (page_bytes o.config.page) base l p) in subst V (sym are) at) is
+
+-- a fix is granted where the page is
+so_far_fix : {D : Type 0} (sense : Senses D) (o : Opening) (start : Start) (desk : State D) (log : Seen) (w : Working) (past : List Event) (pending : List Kind) (p : PageId) (now : ℕ) (g : Granted)
+    → SoFar sense o start desk log w past pending → IsTogether past w.pass → MayPrecede desk.history pending (kind.Fix p g.frame g.clock now) → home desk.history p ≡ Some g.frame → g.clock ≡ change desk.history g.frame
+    → p.page < o.pages p.space → length w.fixed < 64
+    → SoFar sense o start (grown desk w (kind.Fix p g.frame g.clock now)) log (answered w (kind.Fix p g.frame g.clock now)) (event.Entry (next_entry desk (me w) (kind.Fix p g.frame g.clock now)) ∷ past) []
+so_far_fix sense o start desk log w past pending p now g so together before resident clock inside few =
     let k = kind.Fix p g.frame g.clock now in
-    let L : _ → Type 0 = λ d. disk_faults old.history ≤ sense.faults d in
-    so_far_answer sense o start old new log log w past pending k so
-    (quiet sense o start old new log w past pending k so hit.entry (same_eq sense old.disk new.disk hit.disk) tt tt (subst L (sym hit.disk) so.last_fault) so.last_log_fault)
-    refl (omega arith, so.falling)
-    (lawful_entry sense o start old log w past pending k so together before
-    (record { resident = ap (λ h. home h p) so.entries_are ∙ hit.resident; unchanged = hit.clock ∙ ap (λ h. change h g.frame) (sym so.entries_are) }) tt tt (inside_due o p inside))
-    tt
+    so_far_answer sense o start desk log w past pending k so (record {
+      logged = tt;
+      within = tt;
+      last = so.last_fault;
+      last_log = so.last_log_fault;
+      lawful = lawful_entry sense o start desk log w past pending k so together before
+          (record { resident = ap (λ h. home h p) so.entries_are ∙ resident; unchanged = clock ∙ ap (λ h. change h g.frame) (sym so.entries_are) }) tt tt
+          (free_due o past w.pass p now w.fixed inside so.held few) tt;
+      promised = tt;
+      exact = tt;
+    }) refl (omega arith, so.falling)
 
-pub does_hit : {D : Type 0} {rows more : List Row} (sense : Senses D) (o : Opening) (start : Start) (old new : State D) (log : Seen) (w : Working) (past : List Event) (p : PageId) (now : ℕ) (g : Granted)
-    → SoFar sense o start old log w past [] → IsHit old new rows more (me w) p now g → p.page < pages_in (sense.spaces old.disk) p.space
-    → Does sense o start new log (answered w (kind.Fix p g.frame g.clock now)) past (command.Fix p now)
-does_hit sense o start old new log w past p now g so hit inside = record {
-  answer = event.Entry (next_entry old (me w) (kind.Fix p g.frame g.clock now));
-  before = [];
-  quiet = refl;
-  so_far = so_far_hit sense o start old new log w past [] p now g so (inl so.calls) (inl refl) hit (in_space sense o start old log w past [] p so inside);
-  answers = inl (g.frame, g.clock, refl);
-}
-
-pub does_miss : {D : Type 0} {rows more : List Row} (sense : Senses D) (o : Opening) (start : Start) (old new : State D) (log : Seen) (w : Working) (past : List Event) (p : PageId) (now : ℕ) (g : Granted)
-    → SoFar sense o start old log w past [] → (miss : IsMiss sense.told old new rows more (me w) p now g) → same sense old.disk new.disk → p.page < pages_in (sense.spaces old.disk) p.space
-    → OnValue o past p (λ v. IsSome v)
-    → Does sense o start new log (answered w (kind.Fix p g.frame g.clock now)) past (command.Fix p now)
-does_miss sense o start old new log w past p now g so miss disk inside sound =
-    let e : Event = event.Entry (next_entry old (me w) (kind.Load p g.frame)) in
-    let S : _ → Type 0 = λ d. same sense old.disk d in
-    let here = in_space sense o start old log w past [] p so inside in
-    let loaded : SoFar sense o start miss.mid log w (e ∷ past) (kind.Load p g.frame ∷ []) = so_far_load sense o start old miss.mid log w past p g.frame so miss.loaded (subst S miss.hit.disk disk) sound in
+pub does_hit : {D : Type 0} {rows more : List Row} (sense : Senses D) (o : Opening) (start : Start) (old new : State D) (was is : Seen) (w : Working) (past : List Event) (p : PageId) (now : ℕ) (g : Granted)
+    → SoFar sense o start old was w past [] → Moves sense old new was is → IsHit old new rows more (me w) p now g → p.page < pages_in (sense.spaces old.disk) p.space → length w.fixed < 64
+    → Does sense o start new is (answered w (kind.Fix p g.frame g.clock now)) past (command.Fix p now)
+does_hit sense o start old new was is w past p now g so moves hit inside few =
+    let k = kind.Fix p g.frame g.clock now in
+    let e : Entry = next_entry old (me w) k in
+    let there = so_far_placed sense o start old new was is w past so moves (logged_rest is e old.history new.history hit.entry.history moves.logged) in
     record {
-      answer = event.Entry (next_entry miss.mid (me w) (kind.Fix p g.frame g.clock now));
-      before = e ∷ [];
+      answer = event.Entry e;
+      before = [];
       quiet = refl;
-      so_far = so_far_hit sense o start miss.mid new log w (e ∷ past) (kind.Load p g.frame ∷ []) p now g loaded (inr refl) (inr refl) miss.hit here;
+      so_far = so_far_after sense o start old new is (answered w k) (event.Entry e ∷ past) [] (e ∷ old.history) moves.left hit.entry.history
+          (so_far_fix sense o start (placed old new old.history) is w past [] p now g there (inl so.calls) (inl refl) hit.resident hit.clock (in_space sense o start old was w past [] p so inside) few);
       answers = inl (g.frame, g.clock, refl);
     }
 
--- a fix that was refused, by an entry of its own
-does_refused : {D : Type 0} (sense : Senses D) (o : Opening) (start : Start) (old new : State D) (log : Seen) (w : Working) (past : List Event) (p : PageId) (now : ℕ) (why : Cause)
-    → SoFar sense o start old log w past [] → Grew sense start old new log log w (kind.Refused (call.Fix p now) why)
-    → IsRefused o past w.pass (call.Fix p now) why → IsTrue (is_own (call.Fix p now) why) → is_noted why ≡ false
-    → (due o past w.pass (call.Fix p now) ≡ None → (home (entries past) p ≡ None) × OnValue o past p (λ v. IsSome v → IsTrue (is_excuse why)))
+-- the entry of a call, whose pool is that of the call's start
+same_pool : (c d : Config) (h : List Entry) (new : List Entry) (w : Working) (k : Kind) → d ≡ c → new ≡ entry_behind d.first h (me w) k ∷ h → new ≡ entry_behind c.first h (me w) k ∷ h
+same_pool c d h new w k same is = let E : Config → Type 0 = λ config. new ≡ entry_behind config.first h (me w) k ∷ h in subst E same is
+
+-- a page with a value was read into the next frame
+so_far_load : {D : Type 0} (sense : Senses D) (o : Opening) (start : Start) (old new : State D) (log : Seen) (w : Working) (past : List Event) (p : PageId) (f : ℕ) (h : List Entry)
+    → (r : Readied sense o start old new log w past p h) → home h p ≡ None → next_frame (book old.config h) ≡ Some f → OnValue o (r.more ++ past) p (λ v. IsSome v)
+    → SoFar sense o start (placed old new (entry_behind old.config.first h (me w) (kind.Load p f) ∷ h)) log w (event.Entry (entry_behind old.config.first h (me w) (kind.Load p f)) ∷ r.more ++ past) (kind.Load p f ∷ r.made)
+so_far_load sense o start old new log w past p f h r absent next sound =
+    let k = kind.Load p f in
+    let now : List Event = r.more ++ past in
+    let so = r.so_far in
+    let N : List Entry → Type 0 = λ l. next_frame (book o.config l) ≡ Some f in
+    so_far_under sense o start (placed old new h) log w now r.made k so (record {
+      logged = tt;
+      within = tt;
+      last = so.last_fault;
+      last_log = so.last_log_fault;
+      lawful = lawful_entry sense o start (placed old new h) log w now r.made k so r.together tt (record {
+        absent = ap (λ l. home l p) so.entries_are ∙ absent;
+        next = subst N (sym so.entries_are) (ap (λ c. next_frame (book c h)) (sym so.config_is) ∙ next);
+        sound = sound;
+      }) tt tt tt tt;
+      promised = tt;
+      exact = tt;
+    }) refl refl
+
+pub does_miss : {D : Type 0} {more : List Row} (sense : Senses D) (o : Opening) (start : Start) (old new : State D) (frames : Plain) (was is : Seen) (w : Working) (past : List Event) (p : PageId) (now : ℕ) (g : Granted)
+    → SoFar sense o start old was w past [] → Moves sense old new was is → IsReady sense old frames w.fixed → (miss : IsMiss sense.told old new frames.rows more (me w) p now g) → p.page < pages_in (sense.spaces old.disk) p.space
+    → length w.fixed < 64 → IfSome o.base (λ base. IsSome (value (page_bytes o.config.page) base old.history p))
+    → Does sense o start new is (answered w (kind.Fix p g.frame g.clock now)) past (command.Fix p now)
+does_miss sense o start old new frames was is w past p now g so moves ready miss inside few sound =
+    let had = miss.had in
+    let mid = miss.mid in
+    let load = kind.Load p g.frame in
+    let k = kind.Fix p g.frame g.clock now in
+    let x : Entry = entry_behind old.config.first had.history (me w) load in
+    let e : Entry = entry_behind old.config.first mid.history (me w) k in
+    let config : had.config ≡ old.config = had_config old had (me w) g.frame miss.frame_is in
+    let loaded : mid.history ≡ x ∷ had.history = same_pool old.config had.config had.history mid.history w load config miss.loaded.entry.history in
+    let fixed : new.history ≡ e ∷ mid.history = same_pool old.config mid.config mid.history new.history w k (miss.loaded.entry.config ∙ config) miss.hit.entry.history in
+    let logged : IsLogged is had.history = logged_rest is x had.history mid.history loaded (logged_rest is e mid.history new.history fixed moves.logged) in
+    let first = so_far_placed sense o start old new was is w past so moves (logged_before old had is (me w) g.frame miss.frame_is logged) in
+    let r = readied sense o start old new had frames is w past p g.frame first ready logged miss.absent miss.frame_is in
+    let here = in_space sense o start old was w past [] p so inside in
+    let B : Config → Type 0 = λ c. next_frame (book c had.history) ≡ Some g.frame in
+    let there : OnValue o (r.more ++ past) p (λ v. IsSome v) = value_at o (r.more ++ past) had.history p (λ v. IsSome v) r.so_far.entries_are
+    (on_some o.base _ _ (λ base _ some. let V : Option Content → Type 0 = λ v. IsSome v in subst V (sym (r.values (page_bytes o.config.page) base)) some) sound) in
+    let S : List Entry → Type 0 = λ h. SoFar sense o start (placed old new h) is w (event.Entry x ∷ r.more ++ past) (load ∷ r.made) in
+    let behind = subst S (sym loaded) (so_far_load sense o start old new is w past p g.frame had.history r miss.loaded.absent (subst B config miss.loaded.frame) there) in
+    record {
+      answer = event.Entry e;
+      before = event.Entry x ∷ r.more;
+      quiet = r.quiet;
+      so_far = so_far_after sense o start old new is (answered w k) (event.Entry e ∷ event.Entry x ∷ r.more ++ past) [] (e ∷ mid.history) moves.left fixed
+          (so_far_fix sense o start (placed old new mid.history) is w (event.Entry x ∷ r.more ++ past) (load ∷ r.made) p now g behind (inr refl) (inr (r.made, refl, r.had)) miss.hit.resident miss.hit.clock here few);
+      answers = inl (g.frame, g.clock, refl);
+    }
+
+-- A fix that was refused, by an entry behind those by which a frame may have been had.
+does_refused : {D : Type 0} (sense : Senses D) (o : Opening) (start : Start) (old new : State D) (log : Seen) (w : Working) (past : List Event) (p : PageId) (now : ℕ) (why : Cause) (h : List Entry)
+    → (r : Readied sense o start old new log w past p h) → Left sense old new → new.history ≡ entry_behind old.config.first h (me w) (kind.Refused (call.Fix p now) why) ∷ h
+    → IsLoggedKind log (kind.Refused (call.Fix p now) why) → IsKindWithin start (sense.faults new.disk) log.faults (kind.Refused (call.Fix p now) why)
+    → disk_faults_after why (disk_faults h) ≤ sense.faults new.disk → log_faults_after why (log_faults h) ≤ log.faults
+    → MayPrecedeUnfixed h r.made p why → IsRefused o (r.more ++ past) w.pass (call.Fix p now) why → AreExactWords h w.fixed (cause_words why) → IsTrue (is_own (call.Fix p now) why) → is_noted why ≡ false
+    → (due o (r.more ++ past) w.pass (call.Fix p now) ≡ None → (home (entries (r.more ++ past)) p ≡ None) × OnValue o (r.more ++ past) p (λ v. IsSome v → IsTrue (is_excuse why))) → AreRising (cause_words why)
     → Does sense o start new log (answered w (kind.Refused (call.Fix p now) why)) past (command.Fix p now)
-does_refused sense o start old new log w past p now why so grew refused own entered excused = record {
-  answer = event.Entry (next_entry old (me w) (kind.Refused (call.Fix p now) why));
-  before = [];
-  quiet = refl;
-  so_far = so_far_answer sense o start old new log log w past [] (kind.Refused (call.Fix p now) why) so grew refl
-      (falling_up w.next (w.next + 1) w.fixed (omega arith) so.falling)
-      (lawful_entry sense o start old log w past [] (kind.Refused (call.Fix p now) why) so (inl so.calls) refl tt tt tt refused)
-      (record { own = own; filed = entered; excused = excused });
-  answers = inr (why, refl);
-}
+does_refused sense o start old new log w past p now why h r left came logged within last last_log precedes refused exact own entered excused rising =
+    let k = kind.Refused (call.Fix p now) why in
+    let at = placed old new h in
+    let e : Entry = entry_behind old.config.first h (me w) k in
+    let past' : List Event = r.more ++ past in
+    record {
+      answer = event.Entry e;
+      before = r.more;
+      quiet = r.quiet;
+      so_far = so_far_after sense o start old new log (answered w k) (event.Entry e ∷ past') [] (e ∷ h) left came
+          (so_far_answer sense o start at log w past' r.made k r.so_far (record {
+            logged = logged;
+            within = within;
+            last = last;
+            last_log = last_log;
+            lawful = lawful_entry sense o start at log w past' r.made k r.so_far r.together precedes tt tt tt refused tt;
+            promised = record { own = own; filed = entered; excused = excused; rising = rising };
+            exact = exact;
+          }) refl (falling_up w.next (w.next + 1) w.fixed (omega arith) r.so_far.falling));
+      answers = inr (why, refl);
+    }
 
-pub does_outside : {D : Type 0} (sense : Senses D) (o : Opening) (start : Start) (old new : State D) (log : Seen) (w : Working) (past : List Event) (p : PageId) (now pages : ℕ)
-    → SoFar sense o start old log w past [] → IsOutside sense.spaces old new (me w) p now pages
-    → Does sense o start new log (answered w (kind.Refused (call.Fix p now) (cause.NoSuchPage pages))) past (command.Fix p now)
-does_outside sense o start old new log w past p now pages so out =
-    let k = kind.Refused (call.Fix p now) (cause.NoSuchPage pages) in
-    let L : _ → Type 0 = λ d. disk_faults old.history ≤ sense.faults d in
-    let is_due : outside o p ≡ Some (cause.NoSuchPage pages) = outside_due o p pages (out.count ∙ sym (so.pages_are p.space)) out.past_end in
-    does_refused sense o start old new log w past p now (cause.NoSuchPage pages) so
-    (quiet sense o start old new log w past [] k so out.entry (same_eq sense old.disk new.disk out.disk) tt tt (subst L (sym out.disk) so.last_fault) so.last_log_fault)
-    is_due refl refl (λ none. let bad : None ≡ Some (cause.NoSuchPage pages) = sym none ∙ is_due in absurd (cc))
+-- a refusal that comes alone
+refused_alone : {D : Type 0} (sense : Senses D) (o : Opening) (start : Start) (old new : State D) (was is : Seen) (w : Working) (past : List Event) (p : PageId) (now : ℕ) (why : Cause)
+    → (so : SoFar sense o start old was w past []) → Moves sense old new was is → IsAppended old new (me w) (kind.Refused (call.Fix p now) why)
+    → IsLoggedKind is (kind.Refused (call.Fix p now) why) → IsKindWithin start (sense.faults new.disk) is.faults (kind.Refused (call.Fix p now) why)
+    → disk_faults_after why (disk_faults old.history) ≤ sense.faults new.disk → log_faults_after why (log_faults old.history) ≤ is.faults
+    → MayPrecedeUnfixed old.history [] p why → IsRefused o past w.pass (call.Fix p now) why → AreExactWords old.history w.fixed (cause_words why) → IsTrue (is_own (call.Fix p now) why) → is_noted why ≡ false
+    → (due o past w.pass (call.Fix p now) ≡ None → (home (entries past) p ≡ None) × OnValue o past p (λ v. IsSome v → IsTrue (is_excuse why))) → AreRising (cause_words why)
+    → Does sense o start new is (answered w (kind.Refused (call.Fix p now) why)) past (command.Fix p now)
+refused_alone sense o start old new was is w past p now why so moves entry logged within last last_log precedes refused exact own entered excused rising =
+    let e : Entry = next_entry old (me w) (kind.Refused (call.Fix p now) why) in
+    let there = so_far_placed sense o start old new was is w past so moves (logged_rest is e old.history new.history entry.history moves.logged) in
+    does_refused sense o start old new is w past p now why old.history (readied_none sense o start old new is w past p there) moves.left entry.history
+    logged within last last_log precedes refused exact own entered excused rising
 
-pub does_faulted : {D : Type 0} (sense : Senses D) (o : Opening) (start : Start) (old new : State D) (log : Seen) (w : Working) (past : List Event) (p : PageId) (now before after : ℕ)
-    → SoFar sense o start old log w past [] → IsFaulted sense.faults old new (me w) p now before after → same sense old.disk new.disk → p.page < pages_in (sense.spaces old.disk) p.space
-    → Does sense o start new log (answered w (kind.Refused (call.Fix p now) (cause.DiskFault before after))) past (command.Fix p now)
-does_faulted sense o start old new log w past p now before after so faulted disk inside =
-    let k = kind.Refused (call.Fix p now) (cause.DiskFault before after) in
+pub does_outside : {D : Type 0} (sense : Senses D) (o : Opening) (start : Start) (old new : State D) (was is : Seen) (w : Working) (past : List Event) (p : PageId) (now pages : ℕ)
+    → SoFar sense o start old was w past [] → Moves sense old new was is → IsOutside sense.spaces old new (me w) p now pages
+    → Does sense o start new is (answered w (kind.Refused (call.Fix p now) (cause.NoSuchPage pages))) past (command.Fix p now)
+does_outside sense o start old new was is w past p now pages so moves out =
+    let is_due : due o past w.pass (call.Fix p now) ≡ Some (cause.NoSuchPage pages) =
+    ap (λ x. option_or x (hold_full past w.pass)) (outside_due o p pages (out.count ∙ sym (so.pages_are p.space)) out.past_end) in
+    refused_alone sense o start old new was is w past p now (cause.NoSuchPage pages) so moves out.entry tt tt (omega (arith, so.last_fault, moves.left.later)) (omega (arith, so.last_log_fault, moves.later))
+    refl is_due tt refl refl (λ none. let bad : None ≡ Some (cause.NoSuchPage pages) = sym none ∙ is_due in absurd (cc)) tt
+
+pub does_full : {D : Type 0} (sense : Senses D) (o : Opening) (start : Start) (old new : State D) (was is : Seen) (w : Working) (past : List Event) (p : PageId) (now held full : ℕ)
+    → SoFar sense o start old was w past [] → Moves sense old new was is → p.page < pages_in (sense.spaces old.disk) p.space → held ≡ length w.fixed → length w.fixed ≤ 64 → IsHeldFull old new (me w) p now held full
+    → Does sense o start new is (answered w (kind.Refused (call.Fix p now) (cause.HoldFull full))) past (command.Fix p now)
+does_full sense o start old new was is w past p now held full so moves inside count few out =
+    let all : length w.fixed ≡ 64 = omega (arith, count, few, out.most) in
+    let most : full ≡ 64 = omega (arith, out.full_is, count, all) in
+    let is_due : due o past w.pass (call.Fix p now) ≡ Some (cause.HoldFull full) =
+    ap (λ x. option_or x (hold_full past w.pass)) (inside_due o p (in_space sense o start old was w past [] p so inside)) ∙ is_full past w.pass w.fixed so.held all ∙ ap (λ n. Some (cause.HoldFull n)) (sym most) in
+    refused_alone sense o start old new was is w past p now (cause.HoldFull full) so moves out.entry tt tt (omega (arith, so.last_fault, moves.left.later)) (omega (arith, so.last_log_fault, moves.later))
+    refl is_due tt refl refl (λ none. let bad : None ≡ Some (cause.HoldFull full) = sym none ∙ is_due in absurd (cc)) tt
+
+all_fixed_here : (c d : Config) (h l : List Entry) (p : PageId) (seen : List (ℕ × Word)) → d ≡ c → l ≡ h → AreAllFixed c h p seen → AreAllFixed d l p seen
+all_fixed_here c d h l p seen config at all =
+    let A : Config → List Entry → Type 0 = λ config l. AreAllFixed config l p seen in subst (λ config. A config l) (sym config) (subst (λ l. A c l) (sym at) all)
+
+pub does_unseated : {D : Type 0} (sense : Senses D) (o : Opening) (start : Start) (old new : State D) (frames : Plain) (was is : Seen) (w : Working) (past : List Event) (p : PageId) (now : ℕ) (seen : List (ℕ × Word))
+    → SoFar sense o start old was w past [] → Moves sense old new was is → IsReady sense old frames w.fixed → p.page < pages_in (sense.spaces old.disk) p.space → length w.fixed < 64
+    → IsUnseated old new frames.rows (me w) p now seen
+    → Does sense o start new is (answered w (kind.Refused (call.Fix p now) (cause.AllFixed seen))) past (command.Fix p now)
+does_unseated sense o start old new frames was is w past p now seen so moves ready inside few out =
+    let here = in_space sense o start old was w past [] p so inside in
+    refused_alone sense o start old new was is w past p now (cause.AllFixed seen) so moves out.entry tt tt (omega (arith, so.last_fault, moves.left.later)) (omega (arith, so.last_log_fault, moves.later))
+    refl (free_due o past w.pass p now w.fixed here so.held few, all_fixed_here old.config o.config old.history (entries past) p seen (sym so.config_is) so.entries_are out.full.all)
+    (exact_words sense old frames w.fixed old.history seen (λ q. refl) (λ f. refl) ready out.full.found) refl refl
+    (λ none. (ap (λ h. home h p) so.entries_are ∙ out.absent, always o.base (λ base. value (page_bytes o.config.page) base (entries past) p))) out.full.rising
+
+pub does_uncovered : {D : Type 0} (sense : Senses D) (o : Opening) (start : Start) (old new : State D) (was is : Seen) (w : Working) (past : List Event) (p : PageId) (now before after : ℕ)
+    → SoFar sense o start old was w past [] → Moves sense old new was is → p.page < pages_in (sense.spaces old.disk) p.space → length w.fixed < 64
+    → IsUnwritten old new (me w) p now was.faults is.faults before after (cause.RedoFault before after)
+    → Does sense o start new is (answered w (kind.Refused (call.Fix p now) (cause.RedoFault before after))) past (command.Fix p now)
+does_uncovered sense o start old new was is w past p now before after so moves inside few out =
+    let here = in_space sense o start old was w past [] p so inside in
+    let L : List Entry → Type 0 = λ h. log_faults h ≤ before in
+    refused_alone sense o start old new was is w past p now (cause.RedoFault before after) so moves out.entry tt (omega (arith, so.low_log, out.rose.first), omega (arith, out.rose.last))
+    (omega (arith, so.last_fault, moves.left.later)) (omega (arith, out.rose.last))
+    refl (free_due o past w.pass p now w.fixed here so.held few, (out.rose.rose, subst L (sym so.entries_are) (omega (arith, so.last_log_fault, out.rose.first)))) tt refl refl
+    (λ none. (ap (λ h. home h p) so.entries_are ∙ out.absent, always o.base (λ base. value (page_bytes o.config.page) base (entries past) p))) tt
+
+pub does_unwritten : {D : Type 0} (sense : Senses D) (o : Opening) (start : Start) (old new : State D) (was is : Seen) (w : Working) (past : List Event) (p : PageId) (now before after : ℕ)
+    → SoFar sense o start old was w past [] → Moves sense old new was is → p.page < pages_in (sense.spaces old.disk) p.space → length w.fixed < 64
+    → IsUnwritten old new (me w) p now (sense.faults old.disk) (sense.faults new.disk) before after (cause.DiskFault before after)
+    → Does sense o start new is (answered w (kind.Refused (call.Fix p now) (cause.DiskFault before after))) past (command.Fix p now)
+does_unwritten sense o start old new was is w past p now before after so moves inside few out =
+    let here = in_space sense o start old was w past [] p so inside in
     let L : List Entry → Type 0 = λ h. disk_faults h ≤ before in
-    does_refused sense o start old new log w past p now (cause.DiskFault before after) so
-    (quiet sense o start old new log w past [] k so faulted.entry disk tt (omega (arith, so.low_is, faulted.fault.first), omega (arith, faulted.fault.last)) (omega (arith, faulted.fault.last)) so.last_log_fault)
-    (inside_due o p (in_space sense o start old log w past [] p so inside), (faulted.fault.rose, subst L (sym so.entries_are) (omega (arith, so.last_fault, faulted.fault.first))))
-    refl refl (λ none. (ap (λ h. home h p) so.entries_are ∙ faulted.absent, always o.base (λ base. value (page_bytes o.config.page) base (entries past) p)))
-  where
-    always : {A : Type 0} (v : Option A) (f : A → Option Content) → IfSome v (λ base. IsSome (f base) → IsTrue true)
-    always None f = tt
-    always (Some base) f = λ some. refl
+    refused_alone sense o start old new was is w past p now (cause.DiskFault before after) so moves out.entry tt (omega (arith, so.low_is, out.rose.first), omega (arith, out.rose.last))
+    (omega (arith, out.rose.last)) (omega (arith, so.last_log_fault, moves.later))
+    (inl refl) (free_due o past w.pass p now w.fixed here so.held few, (out.rose.rose, subst L (sym so.entries_are) (omega (arith, so.last_fault, out.rose.first)))) tt refl refl
+    (λ none. (ap (λ h. home h p) so.entries_are ∙ out.absent, always o.base (λ base. value (page_bytes o.config.page) base (entries past) p))) tt
 
-other_page : (p : PageId) (bytes : List ℕ) (found : BadPage) → IsBad p bytes found → IsOther p found
-other_page p bytes (bad.Number n) is = is.2
-other_page p bytes (bad.Space n) is = is.3
-other_page p bytes (bad.Torn head tail) is = is.5
+-- a frame was had, and its refusal comes behind
+pub does_faulted : {D : Type 0} {cleared : List Row} (sense : Senses D) (o : Opening) (start : Start) (old had new : State D) (frames : Plain) (was is : Seen) (w : Working) (past : List Event) (p : PageId) (now f before after : ℕ)
+    → SoFar sense o start old was w past [] → Moves sense old new was is → IsReady sense old frames w.fixed → p.page < pages_in (sense.spaces old.disk) p.space → length w.fixed < 64
+    → home old.history p ≡ None → IsHad old had frames.rows cleared (me w) f → sense.faults old.disk ≤ sense.faults had.disk → IsFaulted sense.faults had new (me w) p now before after
+    → Does sense o start new is (answered w (kind.Refused (call.Fix p now) (cause.DiskFault before after))) past (command.Fix p now)
+does_faulted sense o start old had new frames was is w past p now f before after so moves ready inside few absent frame_is low out =
+    let why = cause.DiskFault before after in
+    let k = kind.Refused (call.Fix p now) why in
+    let e : Entry = entry_behind old.config.first had.history (me w) k in
+    let came : new.history ≡ e ∷ had.history = same_pool old.config had.config had.history new.history w k (had_config old had (me w) f frame_is) out.entry.history in
+    let logged : IsLogged is had.history = logged_rest is e had.history new.history came moves.logged in
+    let first = so_far_placed sense o start old new was is w past so moves (logged_before old had is (me w) f frame_is logged) in
+    let r = readied sense o start old new had frames is w past p f first ready logged absent frame_is in
+    let here = in_space sense o start old was w past [] p so inside in
+    let L : List Entry → Type 0 = λ h. disk_faults h ≤ before in
+    does_refused sense o start old new is w past p now why had.history r moves.left came tt (omega (arith, so.low_is, low, out.fault.first), omega (arith, out.fault.last)) (omega (arith, out.fault.last)) r.so_far.last_log_fault
+    (inr (out.absent, r.had)) (
+      free_due o (r.more ++ past) w.pass p now w.fixed here r.so_far.held few,
+      (out.fault.rose, subst L (sym r.so_far.entries_are) (omega (arith, r.faults, so.last_fault, low, out.fault.first))),
+    ) tt refl refl
+    (λ none. (ap (λ h. home h p) r.so_far.entries_are ∙ out.absent, always o.base (λ base. value (page_bytes o.config.page) base (entries (r.more ++ past)) p))) tt
 
-pub does_unsound : {D : Type 0} (sense : Senses D) (o : Opening) (start : Start) (old new : State D) (log : Seen) (w : Working) (past : List Event) (p : PageId) (now : ℕ) (found : BadPage)
-    → SoFar sense o start old log w past [] → IsUnsound sense.told old new (me w) p now found → same sense old.disk new.disk → p.page < pages_in (sense.spaces old.disk) p.space
-    → OnValue o past p (λ v. v ≡ None)
-    → Does sense o start new log (answered w (kind.Refused (call.Fix p now) (cause.BadPage found))) past (command.Fix p now)
-does_unsound sense o start old new log w past p now found so unsound disk inside none_there =
-    let k = kind.Refused (call.Fix p now) (cause.BadPage found) in
-    let here = in_space sense o start old log w past [] p so inside in
-    does_refused sense o start old new log w past p now (cause.BadPage found) so
-    (quiet sense o start old new log w past [] k so unsound.entry disk tt tt (omega (arith, so.last_fault, disk.later)) so.last_log_fault)
-    (inside_due o p here, other_page p unsound.read.bytes found unsound.read.because)
-    refl refl (λ none. (
-      ap (λ h. home h p) so.entries_are ∙ unsound.absent,
-      on_some o.base _ _ (λ base is no some. let S : Option Content → Type 0 = λ v. IsSome v in let bad : IsSome {T = Content} None = subst S no some in absurd (cc)) none_there,
-    ))
+other_number : (p : PageId) (bytes : List ℕ) (found : BadPage) → IsBad p bytes found → IsOther p found
+other_number p bytes (bad.Number n) is = is.2
+other_number p bytes (bad.Space n) is = is.3
+other_number p bytes (bad.Torn head tail) is = is.5
+
+pub does_unsound : {D : Type 0} {cleared : List Row} (sense : Senses D) (o : Opening) (start : Start) (old had new : State D) (frames : Plain) (was is : Seen) (w : Working) (past : List Event) (p : PageId) (now f : ℕ) (found : BadPage)
+    → SoFar sense o start old was w past [] → Moves sense old new was is → IsReady sense old frames w.fixed → p.page < pages_in (sense.spaces old.disk) p.space → length w.fixed < 64
+    → home old.history p ≡ None → IsHad old had frames.rows cleared (me w) f → IsUnsound sense.told had new (me w) p now found → IfSome o.base (λ base. value (page_bytes o.config.page) base old.history p ≡ None)
+    → Does sense o start new is (answered w (kind.Refused (call.Fix p now) (cause.BadPage found))) past (command.Fix p now)
+does_unsound sense o start old had new frames was is w past p now f found so moves ready inside few absent frame_is out none_there =
+    let why = cause.BadPage found in
+    let k = kind.Refused (call.Fix p now) why in
+    let e : Entry = entry_behind old.config.first had.history (me w) k in
+    let came : new.history ≡ e ∷ had.history = same_pool old.config had.config had.history new.history w k (had_config old had (me w) f frame_is) out.entry.history in
+    let logged : IsLogged is had.history = logged_rest is e had.history new.history came moves.logged in
+    let first = so_far_placed sense o start old new was is w past so moves (logged_before old had is (me w) f frame_is logged) in
+    let r = readied sense o start old new had frames is w past p f first ready logged absent frame_is in
+    let here = in_space sense o start old was w past [] p so inside in
+    does_refused sense o start old new is w past p now why had.history r moves.left came tt tt r.so_far.last_fault r.so_far.last_log_fault
+    (inr (out.absent, r.had)) (free_due o (r.more ++ past) w.pass p now w.fixed here r.so_far.held few, other_number p out.read.bytes found out.read.because) tt refl refl
+    (λ none. (
+      ap (λ h. home h p) r.so_far.entries_are ∙ out.absent,
+      value_at o (r.more ++ past) had.history p (λ v. IsSome v → IsTrue false) r.so_far.entries_are
+          (on_some o.base _ _ (λ base is_base gone some. let S : Option Content → Type 0 = λ v. IsSome v in
+          let bad : IsSome {T = Content} None = subst S (r.values (page_bytes o.config.page) base ∙ gone) some in absurd (cc)) none_there),
+    )) tt
 
 -- a receipt is the answer of the call
 does_receipt : {D : Type 0} (sense : Senses D) (o : Opening) (start : Start) (desk : State D) (log : Seen) (w : Working) (past : List Event) (c : Rattle.script_text.specs.declared.script.Command.Command) (n : Note)
@@ -221,7 +374,7 @@ does_unheld_read sense o start desk log w past p at len so none =
     let e : Event = event.Receipt (next_receipt desk w n) in
     let M : Option Held → Type 0 = λ newest. MatchOption newest (IsReceiptOf n e) (λ held. (bytes : List ℕ) × (clock : ℕ) × (length bytes ≡ len) × IsReceiptOf (note.Copied p at bytes clock) e) in
     let here : newest_of (held_by past w.pass) p ≡ None = ap (λ held. newest_of held p) so.held ∙ none in
-    does_receipt sense o start desk log w past (command.Read p at len) n so (lawful_receipt sense o start desk log w past n so tt (is_unheld past w.pass p here)) (record { own = refl; filed = refl; excused = tt }) (subst M (sym here) refl)
+    does_receipt sense o start desk log w past (command.Read p at len) n so (lawful_receipt sense o start desk log w past n so tt (is_unheld past w.pass p here)) (record { own = refl; filed = refl; excused = tt; rising = tt }) (subst M (sym here) refl)
 
 -- and of an unfix of one
 pub does_unheld_unfix : {D : Type 0} (sense : Senses D) (o : Opening) (start : Start) (desk : State D) (log : Seen) (w : Working) (past : List Event) (p : PageId)
@@ -231,7 +384,7 @@ does_unheld_unfix sense o start desk log w past p so none =
     let e : Event = event.Receipt (next_receipt desk w n) in
     let M : Option Held → Type 0 = λ newest. MatchOption newest (IsReceiptOf n e) (λ held. IsReceiptOf (note.Unfixed p held.frame held.number) e) in
     let here : newest_of (held_by past w.pass) p ≡ None = ap (λ held. newest_of held p) so.held ∙ none in
-    does_receipt sense o start desk log w past (command.Unfix p) n so (lawful_receipt sense o start desk log w past n so tt (is_unheld past w.pass p here)) (record { own = refl; filed = refl; excused = tt }) (subst M (sym here) refl)
+    does_receipt sense o start desk log w past (command.Unfix p) n so (lawful_receipt sense o start desk log w past n so tt (is_unheld past w.pass p here)) (record { own = refl; filed = refl; excused = tt; rising = tt }) (subst M (sym here) refl)
 
 pub does_unfix : {D : Type 0} (sense : Senses D) (o : Opening) (start : Start) (desk : State D) (log : Seen) (w : Working) (past : List Event) (p : PageId) (h : Held)
     → SoFar sense o start desk log w past [] → newest_of w.fixed p ≡ Some h → Does sense o start desk log (noted desk w (note.Unfixed p h.frame h.number)) past (command.Unfix p)
@@ -294,27 +447,41 @@ does_unheld_put sense o start desk log w past p at bytes so none =
     let e : Event = event.Receipt (next_receipt desk w n) in
     let M : Option Held → Type 0 = λ newest. MatchOption newest (IsReceiptOf n e) (λ held. ((from : ℕ) × (end : ℕ) × IsEntryOf (kind.Put p at bytes from end) e) ⊎ IsRefusal (call.Put p at bytes) e) in
     let here : newest_of (held_by past w.pass) p ≡ None = ap (λ held. newest_of held p) so.held ∙ none in
-    does_receipt sense o start desk log w past (command.Put p at bytes) n so (lawful_receipt sense o start desk log w past n so tt (is_unheld past w.pass p here)) (record { own = refl; filed = refl; excused = tt }) (subst M (sym here) refl)
+    does_receipt sense o start desk log w past (command.Put p at bytes) n so (lawful_receipt sense o start desk log w past n so tt (is_unheld past w.pass p here)) (record { own = refl; filed = refl; excused = tt; rising = tt }) (subst M (sym here) refl)
 
 -- an entry that answers a put of a page that is held
 does_put_entry : {D : Type 0} (sense : Senses D) (o : Opening) (start : Start) (old new : State D) (was is : Seen) (w : Working) (past : List Event) (p : PageId) (at : ℕ) (bytes : List ℕ) (held : Held) (k : Kind)
-    → SoFar sense o start old was w past [] → Grew sense start old new was is w k → kind_answers k ≡ true → held_after_kind w.next k w.fixed ≡ w.fixed → newest_of w.fixed p ≡ Some held
-    → MayPrecede [] k → IsLegalKind o past w.pass k → IsStillKind past k → IsCoveredKind (entries past) k → IsCausedKind o past w.pass k
+    → SoFar sense o start old was w past [] → Moves sense old new was is → IsAppended old new (me w) k → kind_answers k ≡ true → held_after_kind w.next k w.fixed ≡ w.fixed → newest_of w.fixed p ≡ Some held
+    → IsKindWithin start (sense.faults new.disk) is.faults k → after_cause disk_faults_after k (disk_faults old.history) ≤ sense.faults new.disk → after_cause log_faults_after k (log_faults old.history) ≤ is.faults
+    → MayPrecede old.history [] k → IsLegalKind o past w.pass k → IsStillKind past k → IsCoveredKind (entries past) k → IsCausedKind o past w.pass k → IsVictimKind o.config (entries past) w.pass w.next k → AreExactWords old.history w.fixed (words_told k)
     → IsPromised o past (event.Entry (next_entry old (me w) k))
     → ((from : ℕ) × (end : ℕ) × (k ≡ kind.Put p at bytes from end)) ⊎ ((why : Cause) × (k ≡ kind.Refused (call.Put p at bytes) why))
     → Does sense o start new is (answered w k) past (command.Put p at bytes)
-does_put_entry sense o start old new was is w past p at bytes held k so grew answers kept newest before legal still covered causes promised form =
-    let e : Event = event.Entry (next_entry old (me w) k) in
+does_put_entry sense o start old new was is w past p at bytes held k so moves entry answers kept newest within last last_log before legal still covered causes victim exact promised form =
+    let x : Entry = next_entry old (me w) k in
+    let e : Event = event.Entry x in
     let here : newest_of (held_by past w.pass) p ≡ Some held = ap (λ fixes. newest_of fixes p) so.held ∙ newest in
     let M : Option Held → Type 0 = λ found. MatchOption found (IsReceiptOf (note.Refused (call.Put p at bytes) cause.Unheld) e)
     (λ _. ((from : ℕ) × (end : ℕ) × IsEntryOf (kind.Put p at bytes from end) e) ⊎ IsRefusal (call.Put p at bytes) e) in
     let F : List Held → Type 0 = λ fixes. AreFalling (w.next + 1) fixes in
+    let I : List Entry → Type 0 = λ h. IsLogged is h in
+    let all : IsLogged is (x ∷ old.history) = subst I entry.history moves.logged in
+    let there = so_far_placed sense o start old new was is w past so moves all.1 in
+    let desk = placed old new old.history in
     record {
       answer = e;
       before = [];
       quiet = refl;
-      so_far = so_far_answer sense o start old new was is w past [] k so grew answers (subst F (sym kept) (falling_up w.next (w.next + 1) w.fixed (omega arith) so.falling))
-          (lawful_entry sense o start old was w past [] k so (inl so.calls) before legal still covered causes) promised;
+      so_far = so_far_after sense o start old new is (answered w k) (e ∷ past) [] (x ∷ old.history) moves.left entry.history
+          (so_far_answer sense o start desk is w past [] k there (record {
+            logged = all.0;
+            within = within;
+            last = last;
+            last_log = last_log;
+            lawful = lawful_entry sense o start desk is w past [] k there (inl so.calls) before legal still covered causes victim;
+            promised = promised;
+            exact = exact;
+          }) answers (subst F (sym kept) (falling_up w.next (w.next + 1) w.fixed (omega arith) so.falling)));
       answers = subst M (sym here) form;
     }
 
@@ -322,24 +489,15 @@ does_put : {D : Type 0} {rows more : List Row} (sense : Senses D) (o : Opening) 
     → SoFar sense o start old was w past [] → newest_of w.fixed p ≡ Some held → (by : IsPutBy old new rows more (me w) p at bytes done) → was.end + 21 + length bytes ≤ done.lsn
     → log_end old.history ≤ was.end → IsLater was is → (IsLogged was old.history → IsLogged is new.history) → IsBody (page_bytes old.config.page) at (length bytes)
     → Does sense o start new is (answered w (kind.Put p at bytes by.start done.lsn)) past (command.Put p at bytes)
-does_put {D} sense o start old new was is w past p at bytes held done so newest by span known later logged body =
+does_put sense o start old new was is w past p at bytes held done so newest by span known later logged body =
     let k = kind.Put p at bytes by.start done.lsn in
     let here : newest_of (held_by past w.pass) p ≡ Some held = ap (λ fixes. newest_of fixes p) so.held ∙ newest in
     let S : Option Held → Type 0 = λ found. IsSome found in
     let B : ℕ → Type 0 = λ size. at + length bytes ≤ size - 8 in
     let L : List Entry → Type 0 = λ h. log_end h ≤ by.start in
-    let F : D → Type 0 = λ d. disk_faults old.history ≤ sense.faults d in
-    does_put_entry sense o start old new was is w past p at bytes held k so
-    (record {
-      config = by.entry.config;
-      history = by.entry.history;
-      disk = same_eq sense old.disk new.disk by.disk;
-      later = later.faults;
-      logged = logged;
-      within = tt;
-      last = subst F (sym by.disk) so.last_fault;
-      last_log = omega (arith, so.last_log_fault, later.faults);
-    }) refl refl newest refl
+    let left = left_same sense old new by.entry.config by.entry.instance by.disk in
+    does_put_entry sense o start old new was is w past p at bytes held k so (record { left = left; later = later.faults; logged = logged so.logged }) by.entry refl refl newest
+    tt (omega (arith, so.last_fault, left.later)) (omega (arith, so.last_log_fault, later.faults)) refl
     (record {
       held = subst S (sym here) refl;
       some = body.some;
@@ -347,30 +505,21 @@ does_put {D} sense o start old new was is w past p at bytes held done so newest 
       trailer = subst B (ap (λ (c : Config). page_bytes c.page) so.config_is) body.trailer;
       behind = subst L (sym so.entries_are) (omega (arith, known, span, by.lsn));
       record_is = by.lsn;
-    }) tt tt (is_held past w.pass p held here) tt (inl (by.start, done.lsn, refl))
+    }) tt tt (is_held past w.pass p held here) tt tt tt (inl (by.start, done.lsn, refl))
 
 does_spent : {D : Type 0} (sense : Senses D) (o : Opening) (start : Start) (old new : State D) (was is : Seen) (w : Working) (past : List Event) (p : PageId) (at : ℕ) (bytes : List ℕ) (held : Held) (end : ℕ)
     → SoFar sense o start old was w past [] → newest_of w.fixed p ≡ Some held → IsSpentBy old new (me w) p at bytes was.end is.end end
     → log_end old.history ≤ was.end → IsLater was is → (IsLogged was old.history → IsLogged is new.history)
     → Does sense o start new is (answered w (kind.Refused (call.Put p at bytes) (cause.LogSpent end))) past (command.Put p at bytes)
-does_spent {D} sense o start old new was is w past p at bytes held end so newest spent known later logged =
+does_spent sense o start old new was is w past p at bytes held end so newest spent known later logged =
     let k = kind.Refused (call.Put p at bytes) (cause.LogSpent end) in
     let here : newest_of (held_by past w.pass) p ≡ Some held = ap (λ fixes. newest_of fixes p) so.held ∙ newest in
     let L : List Entry → Type 0 = λ h. log_end h ≤ end in
-    let F : D → Type 0 = λ d. disk_faults old.history ≤ sense.faults d in
-    does_put_entry sense o start old new was is w past p at bytes held k so
-    (record {
-      config = spent.entry.config;
-      history = spent.entry.history;
-      disk = same_eq sense old.disk new.disk spent.disk;
-      later = later.faults;
-      logged = logged;
-      within = tt;
-      last = subst F (sym spent.disk) so.last_fault;
-      last_log = omega (arith, so.last_log_fault, later.faults);
-    }) refl refl newest refl tt tt tt
-    (is_held past w.pass p held here, record { behind = subst L (sym so.entries_are) (omega (arith, known, spent.known.0)); beyond = omega (arith, spent.beyond) })
-    (record { own = refl; filed = refl; excused = tt }) (inr (cause.LogSpent end, refl))
+    let left = left_same sense old new spent.entry.config spent.entry.instance spent.disk in
+    does_put_entry sense o start old new was is w past p at bytes held k so (record { left = left; later = later.faults; logged = logged so.logged }) spent.entry refl refl newest
+    tt (omega (arith, so.last_fault, left.later)) (omega (arith, so.last_log_fault, later.faults)) refl tt tt tt
+    (is_held past w.pass p held here, record { behind = subst L (sym so.entries_are) (omega (arith, known, spent.known.0)); beyond = omega (arith, spent.beyond) }) tt tt
+    (record { own = refl; filed = refl; excused = tt; rising = tt }) (inr (cause.LogSpent end, refl))
 
 -- the same, where some fix is the newest
 pub does_put_held : {D : Type 0} {rows more : List Row} (sense : Senses D) (o : Opening) (start : Start) (old new : State D) (was is : Seen) (w : Working) (past : List Event) (p : PageId) (at : ℕ) (bytes : List ℕ) (found : Option Held) (done : PutDone)

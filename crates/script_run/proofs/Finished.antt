@@ -1,5 +1,5 @@
 -- A worker that is done, with the runner's writes and its closing entry, makes the trail of a run.
-use Rattle.std.proofs.Common.{◌≡◌, ℕ, Bool, true, false, cond, List, [], ◌∷◌, ◌++◌, ◌+◌, ◌≤◌, ◌&&◌, Option, Some, None, IfSome, length, drop, refl, ap, ◌∙◌, sym, subst, nat_eq, eq-eqb, filter, reverse, arith}
+use Rattle.std.proofs.Common.{◌≡◌, ℕ, Bool, true, false, cond, List, [], ◌∷◌, ◌++◌, ◌+◌, ◌≤◌, ◌&&◌, Option, Some, None, IfSome, length, drop, refl, ap, ◌∙◌, sym, subst, nat_eq, eq-eqb, filter, reverse, arith, inl, inr}
 use Rattle.std.proofs.lemmas.Bool.Decides.{nat_tests}
 use Rattle.std.proofs.lemmas.List.{reverse-append, reverse-reverse}
 use Rattle.std.proofs.lemmas.List.Elements.{filter-append}
@@ -22,7 +22,10 @@ use Rattle.trail.specs.Events.{Events}
 use Rattle.trail.specs.Places.{mark, entries, receipts, AreNumbered, AreWithin}
 use Rattle.trail.specs.History.{disk_faults, log_faults}
 use Rattle.trail.specs.Dirt.{dirty}
-use Rattle.trail.specs.Calls.{caller_of, is_answer, kind_answers, next_number, under_way}
+use Rattle.trail.specs.Calls.{caller_of, is_answer, kind_answers, next_number, under_way, held_by}
+use Rattle.trail.specs.Alone.{AreExact, AreExactWords, AreOnlyOf, words_told, closing_number}
+use Rattle.trail.specs.Victim.{IsVictimKind}
+use Rattle.trail.specs.declared.event.Held.{Held}
 use Rattle.trail.specs.Opening.{Opening}
 use Rattle.trail.specs.Legal.{MayPrecede, AreWrites, IsLegalKind, pages_of}
 use Rattle.trail.specs.Covered.{IsCoveredKind}
@@ -71,6 +74,7 @@ so_far_new {D} sense config base spaces start desk log w pass disk fresh new sam
       held = refl;
       falling = tt;
       alone = tt;
+      exact = tt;
     })
 
 number_is : (m n : ℕ) → nat_eq m n ≡ true → m ≡ n
@@ -144,11 +148,13 @@ closing_call past c e answers runs others = cases (nat_eq 0 c) refl
 -- what the runner's closing entry is, behind its writes
 record Closes (start : Start) (disk log : ℕ) (o : Opening) (past : List Event) (k : Kind) : Type 0 where
   answers : kind_answers k ≡ true
-  before : (made : List Kind) → AreWrites made → MayPrecede made k
+  before : (h : List Entry) (made : List Kind) → AreWrites made → MayPrecede h made k
   legal : IsLegalKind o past 0 k
   still : IsStillKind past k
   covered : IsCoveredKind (entries past) k
   causes : IsCausedKind o past 0 k
+  victim : IsVictimKind o.config (entries past) 0 1 k
+  exact : (h : List Entry) (held : List Held) → AreExactWords h held (words_told k)
   promised : IsPromisedKind o past 0 k
   within : IsKindWithin start disk log k
 
@@ -157,22 +163,26 @@ fault_closes : (start : Start) (disk_was disk_is log_was log_is : ℕ) (o : Open
     → Closes start disk_is log_is o past (kind.Refused (call.Clean 16384) (fault_cause log before after))
 fault_closes start disk_was disk_is log_was log_is o past true before after low low_log last last_log rose counts = record {
   answers = refl;
-  before = λ made are. are;
+  before = λ h made are. are;
   legal = tt;
   still = tt;
   covered = tt;
   causes = (refl, (rose, omega (arith, last_log, counts.first)));
-  promised = record { own = refl; filed = refl; excused = tt };
+  victim = tt;
+  exact = λ h held. tt;
+  promised = record { own = refl; filed = refl; excused = tt; rising = tt };
   within = (omega (arith, low_log, counts.first), omega (arith, counts.last));
 }
 fault_closes start disk_was disk_is log_was log_is o past false before after low low_log last last_log rose counts = record {
   answers = refl;
-  before = λ made are. are;
+  before = λ h made are. are;
   legal = tt;
   still = tt;
   covered = tt;
   causes = (refl, (rose, omega (arith, last, counts.first)));
-  promised = record { own = refl; filed = refl; excused = tt };
+  victim = tt;
+  exact = λ h held. tt;
+  promised = record { own = refl; filed = refl; excused = tt; rising = tt };
   within = (omega (arith, low, counts.first), omega (arith, counts.last));
 }
 
@@ -183,11 +193,13 @@ closes start disk_was disk_is log_was log_is o past n mid f None low low_log las
     let behind : drop (length (under_way (f.writes ++ past) 0)) (entries (f.writes ++ past)) ≡ entries past = ap (λ m. drop m (entries (f.writes ++ past))) f.count ∙ ap (drop n) f.entries_are ∙ f.before in
     record {
       answers = refl;
-      before = λ made are. are;
+      before = λ h made are. are;
       legal = record { rest = pages_of (dirty mid); oldest = ap (λ h. pages_of (dirty h)) behind ∙ f.pages; count = sym f.count; none_skipped = refl };
       still = tt;
       covered = tt;
       causes = refl;
+      victim = tt;
+      exact = λ h held. tt;
       promised = tt;
       within = tt;
     }
@@ -221,6 +233,12 @@ merged_events o past history account events law good es rs merges =
     ∙ ap (λ h. merged o.first h (account ∷ [])) (sym (ap reverse es ∙ reverse-reverse history)) ∙ ap (λ a. merged o.first (reverse (entries past)) (back a)) (sym (ap reverse rs ∙ reverse-reverse account))
     ∙ law.merged_is o.first past is_placed
 
+-- where another caller made all calls, the worker made none
+exact_of : (past : List Event) (c : ℕ) (closing : Option ℕ) → AreOf 1 past → AreOnlyOf c closing past → AreExact 1 past → AreExact c past
+exact_of [] c closing of only exact = tt
+exact_of (e ∷ past) c closing of (inl same, rest) exact = let X : ℕ → Type 0 = λ n. AreExact n (e ∷ past) in subst X (sym of.0 ∙ same) exact
+exact_of (e ∷ past) c closing of (inr closes, rest) exact = absurd (omega (arith, of.0, closes.0))
+
 -- what a worker leaves, with the runner's writes and its closing entry, is a run
 pub finished : {D : Type 0} (sense : Senses D) (o : Opening) (start : Start) (desk new : State D) (was is : Seen) (w : Working) (commands : List Command) (fault : Option FaultAt) (history : List Entry) (account : List Receipt) (trail : Events)
     → FrontLeaves → w.pass ≡ 1 → Worked sense o start desk was w [] commands → (closed : IsClosed desk new fault) → IfSome fault (λ f. IsFlushedWith (sense.faults desk.disk) (sense.faults new.disk) was.faults is.faults f)
@@ -235,9 +253,11 @@ finished {D} sense o start desk new was is w commands fault history account trai
     let S : List Event → Type 0 = λ past. SoFar sense o start desk was w past [] in
     let so = subst S (append_nil more) done.so_far in
     let O : ℕ → Type 0 = λ c. AreOf c more in
-    let of : AreOf 1 more = subst O pass so.alone in
+    let of_one : AreOf 1 more = subst O pass so.alone in
+    let E1 : ℕ → Type 0 = λ n. AreExact n more in
+    let exact : AreExact 1 more = subst E1 pass so.exact in
     let own : under_way more 1 ≡ [] = ap (under_way more) (sym pass) ∙ so.calls in
-    let none : under_way more 0 ≡ [] = calls_all more 1 0 of own in
+    let none : under_way more 0 ≡ [] = calls_all more 1 0 of_one own in
     let disk_is = sense.faults new.disk in
     let E : List Entry → Type 0 = λ h. AreFaultsWithin start disk_is is.faults h in
     let faults : AreFaultsWithin start disk_is is.faults (entries more) =
@@ -245,7 +265,7 @@ finished {D} sense o start desk new was is w commands fault history account trai
     let W : ℕ → List Entry → Type 0 = λ m h. WritesBack m runner n h closed.cleaned.mid in
     let WF : ℕ → Type 0 = λ m. W m desk.history in
     let writes : WritesBack o.first runner n (entries more) closed.cleaned.mid = subst (W o.first) (sym so.entries_are) (subst WF so.first_is closed.cleaned.writes) in
-    let f = flushed o start disk_is is.faults more n closed.cleaned.mid front so.good so.promised (next_other more 1 0 of refl) none faults writes in
+    let f = flushed o start disk_is is.faults more n closed.cleaned.mid front so.good so.promised (next_other more 1 0 of_one refl) none faults writes in
     let L : List Entry → Type 0 = λ h. disk_faults h ≤ sense.faults desk.disk in
     let G : List Entry → Type 0 = λ h. log_faults h ≤ was.faults in
     let c = closes start (sense.faults desk.disk) disk_is was.faults is.faults o more n closed.cleaned.mid f fault so.low_is so.low_log
@@ -258,12 +278,13 @@ finished {D} sense o start desk new was is w commands fault history account trai
         place = ap (λ m. mark m closed.cleaned.mid + 1) so.first_is ∙ ap (λ h. mark o.first h + 1) (sym f.entries_are);
         number = sym f.number;
         together = f.together;
-        before = c.before (under_way before 0) f.made;
+        before = c.before (entries before) (under_way before 0) f.made;
         kind = c.legal;
       };
       still = c.still;
       covered = c.covered;
       causes = c.causes;
+      victim = c.victim;
     } in
     let past : List Event = close ∷ before in
     let good : IsGood o past = (lawful, f.good) in
@@ -274,11 +295,12 @@ finished {D} sense o start desk new was is w commands fault history account trai
     let back : reverse trail.events ≡ past = ap reverse events ∙ reverse-reverse past in
     let mine : (caller : ℕ) → Event → Bool = λ caller e. nat_eq (caller_of e) caller && is_answer e in
     let answers : (caller : ℕ) → answers_of caller trail.events ≡ reverse (filter (mine caller) past) = λ caller. ap (answers_of caller) events ∙ filter_reverse (mine caller) past in
-    let others : (d : ℕ) → nat_eq 0 d ≡ false → under_way before d ≡ [] = λ d other. f.others d other ∙ calls_all more 1 d of own in
+    let others : (d : ℕ) → nat_eq 0 d ≡ false → under_way before d ≡ [] = λ d other. f.others d other ∙ calls_all more 1 d of_one own in
     let P : List Event → Type 0 = λ l. IsGood o l in
     let Q : List Event → Type 0 = λ l. ArePromised o l in
     let U : List Event → Type 0 = λ l. (d : ℕ) → under_way l d ≡ [] in
     let A : List Event → Type 0 = λ l. AreOurs l in
+    let X : List Event → Type 0 = λ l. (d : ℕ) → AreOnlyOf d (closing_number l) l → AreExact d l in
     let T : List Event → Type 0 = λ l. Todo (entries (reverse trail.events)) 1 commands [] l in
     let K : ℕ → Type 0 = λ m. Todo (entries (reverse trail.events)) m commands [] (reverse (filter is_answer more)) in
     let C : List Entry → Type 0 = λ h. dirty h ≡ [] in
@@ -288,16 +310,17 @@ finished {D} sense o start desk new was is w commands fault history account trai
           first = first;
           each = subst P (sym back) good;
           answered = subst U (sym back) (λ d. closing_call before d entry c.answers refl others);
+          alone = subst X (sym back) (λ d of. (c.exact (entries before) (held_by before d), f.exact d (exact_of more d (closing_number past) of_one (f.only d (closing_number past) of.1) exact)));
         };
         promised = subst Q (sym back) (c.promised, f.promised);
-        todo = subst T (sym (answers 1 ∙ ap reverse (f.quiet 1 ∙ answers_own more 1 of))) (subst K pass (done.todo (entries (reverse trail.events))));
+        todo = subst T (sym (answers 1 ∙ ap reverse (f.quiet 1 ∙ answers_own more 1 of_one))) (subst K pass (done.todo (entries (reverse trail.events))));
         close = close;
         written = n;
         closed = answers 0 ∙ ap (λ (b : Bool). reverse (cond b (close ∷ filter (mine 0) before) (filter (mine 0) before))) c.answers
-            ∙ ap (λ l. reverse (close ∷ l)) (f.quiet 0 ∙ answers_other more 1 0 of refl);
+            ∙ ap (λ l. reverse (close ∷ l)) (f.quiet 0 ∙ answers_other more 1 0 of_one refl);
         closing_is = refl;
         last = (before, back);
-        others = subst A (sym back) (omega arith, f.ours (ours more of));
+        others = subst A (sym back) (omega arith, f.ours (ours more of_one));
         clean = λ fine. subst C (sym here) (closed.clean fine);
       },
       here,

@@ -21,7 +21,7 @@ both : (a b : Bool) → (a && b) ≡ true → (a ≡ true) × (b ≡ true)
 both true b h = (refl, h)
 both false b h = absurd (cc)
 
-number_is : (m n : ℕ) → nat_eq m n ≡ true → m ≡ n
+pub number_is : (m n : ℕ) → nat_eq m n ≡ true → m ≡ n
 number_is m n h = grind (arith, nat_tests)
 
 pub one_page : (p q : PageId) → same_page p q ≡ true → p ≡ q

@@ -1,16 +1,15 @@
 -- The closing flush: pages are written one after the other behind a trail in which nothing of the runner is under way.
-use Rattle.std.proofs.Common.{◌≡◌, ℕ, zero, suc, Bool, true, false, cond, not, List, [], ◌∷◌, ◌++◌, ◌+◌, ◌≤◌, ◌&&◌, inl, inr, Some, length, drop, refl, ap, ◌∙◌, sym, subst, nat_eq, filter, append_assoc, arith}
-use Rattle.page_ids.specs.Same.{same_page}
-use Rattle.page_ids.specs.declared.ids.PageId.{PageId}
+use Rattle.std.proofs.Common.{◌≡◌, ℕ, zero, suc, Bool, true, false, cond, List, [], ◌∷◌, ◌++◌, ◌+◌, ◌&&◌, inl, inr, Option, Some, length, drop, refl, ap, ◌∙◌, sym, subst, nat_eq, filter, append_assoc, arith}
 use Rattle.trail.specs.declared.event.Dirty.{Dirty}
 use Rattle.trail.specs.declared.event.Entry.{Entry}
 use Rattle.trail.specs.declared.event.Kind.{Kind}
 use Rattle.trail.specs.declared.event.Kind.TheVariants as kind
 use Rattle.trail.specs.declared.event.Event.{Event}
 use Rattle.trail.specs.declared.event.Event.TheVariants as event
+use Rattle.trail.specs.Alone.{AreExact, AreOnlyOf}
 use Rattle.trail.specs.Places.{mark, entries, receipts}
 use Rattle.trail.specs.History.{disk_faults, log_faults}
-use Rattle.trail.specs.Dirt.{dirtied, cleaned, dirty, dirty_after, dirt_of}
+use Rattle.trail.specs.Dirt.{dirty, dirt_of}
 use Rattle.trail.specs.Calls.{caller_of, is_answer, next_number, under_way}
 use Rattle.trail.specs.Opening.{Opening}
 use Rattle.trail.specs.Legal.{IsTogether, AreWrites, written_pages, pages_of}
@@ -50,6 +49,8 @@ pub record Flushed (o : Opening) (start : Start) (disk log : ℕ) (past : List E
   pub last_fault : disk_faults mid ≡ disk_faults (entries past)
   pub last_log_fault : log_faults mid ≡ log_faults (entries past)
   pub ours : AreOurs past → AreOurs (writes ++ past)
+  pub only : (c : ℕ) (closing : Option ℕ) → AreOnlyOf c closing (writes ++ past) → AreOnlyOf c closing past
+  pub exact : (c : ℕ) → AreExact c past → AreExact c (writes ++ past)
 
 skip : {A : Type 0} (b : Bool) (x y : A) → b ≡ false → cond b x y ≡ y
 skip true x y bad = absurd (cc)
@@ -84,6 +85,8 @@ flushed_none o start disk log past good promised number none faults =
       last_fault = refl;
       last_log_fault = refl;
       ours = λ was. was;
+      only = λ c closing of. of;
+      exact = λ c was. was;
     }
 
 flushed_more : (o : Opening) (start : Start) (disk log : ℕ) (past : List Event) (n : ℕ) (mid new : List Entry) → FrontLeaves
@@ -106,6 +109,7 @@ flushed_more o start disk log past n mid new front f back =
       still = tt;
       covered = record { dirt = d; is_dirty = subst D (sym f.entries_are) found; newest = refl; logged = back.covered };
       causes = tt;
+      victim = tt;
     } in
     let left : dirty new ≡ back.rest = ap dirty back.entry ∙ front mid x d back.rest d.newest back.upto back.first_is refl in
     let made = under_way (f.writes ++ past) 0 in
@@ -129,6 +133,8 @@ flushed_more o start disk log past n mid new front f back =
       last_fault = ap disk_faults back.entry ∙ f.last_fault;
       last_log_fault = ap log_faults back.entry ∙ f.last_log_fault;
       ours = λ was. (omega arith, f.ours was);
+      only = λ c closing of. f.only c closing of.1;
+      exact = λ c was. (tt, f.exact c was);
     }
 
 -- so many writes behind a trail
@@ -140,49 +146,6 @@ flushed o start disk log past zero mid front good promised number none faults wr
     subst P (sym writes) (flushed_none o start disk log past good promised number none faults)
 flushed o start disk log past (suc n) mid front good promised number none faults (before, writes, back) =
     flushed_more o start disk log past n before mid front (flushed o start disk log past n before front good promised number none faults writes) back
-
-few_dirtied : (p : PageId) (from to : ℕ) (ds : List Dirty) → length (dirtied p from to ds) ≤ suc (length ds)
-few_dirtied p from to [] = omega arith
-few_dirtied p from to (d ∷ ds) = pick (same_page d.page p) (few_dirtied p from to ds)
-  where
-    pick : (b : Bool) → length (dirtied p from to ds) ≤ suc (length ds) → length (cond b (record d { newest = to } ∷ ds) (d ∷ dirtied p from to ds)) ≤ suc (suc (length ds))
-    pick true le = omega arith
-    pick false le = omega (arith, le)
-
-few_cleaned : (p : PageId) (ds : List Dirty) → length (cleaned p ds) ≤ length ds
-few_cleaned p [] = omega arith
-few_cleaned p (d ∷ ds) = pick (not (same_page d.page p)) (few_cleaned p ds)
-  where
-    pick : (b : Bool) → length (cleaned p ds) ≤ length ds → length (cond b (d ∷ cleaned p ds) (cleaned p ds)) ≤ suc (length ds)
-    pick true le = omega (arith, le)
-    pick false le = omega (arith, le)
-
-few_after : (k : Kind) (ds : List Dirty) → length (dirty_after k ds) ≤ suc (length ds)
-few_after (kind.Load q f) ds = omega arith
-few_after (kind.Fix q f clock now) ds = omega arith
-few_after (kind.Create q f from to now) ds = few_dirtied q from to ds
-few_after (kind.Put q at bytes from to) ds = few_dirtied q from to ds
-few_after (kind.Evict q f passed) ds = omega arith
-few_after (kind.Write q lsn upto) ds = let le = few_cleaned q ds in omega (arith, le)
-few_after (kind.Move q from to) ds = omega arith
-few_after (kind.Withdraw from) ds = omega arith
-few_after (kind.Undo from) ds = omega arith
-few_after (kind.Shrink chunks) ds = omega arith
-few_after (kind.Grow chunks) ds = omega arith
-few_after (kind.Resize bytes chunks) ds = omega arith
-few_after (kind.Clean written skipped) ds = omega arith
-few_after (kind.Check lsn) ds = omega arith
-few_after (kind.WatchSet q) ds = omega arith
-few_after (kind.WatchAt q f) ds = omega arith
-few_after (kind.Occurred q arrived) ds = omega arith
-few_after (kind.Unwatch q) ds = omega arith
-few_after (kind.Dump pct ids) ds = omega arith
-few_after (kind.Refused asked why) ds = omega arith
-
--- no more pages are dirty than there are entries
-pub few_dirty : (h : List Entry) → length (dirty h) ≤ length h
-few_dirty [] = omega arith
-few_dirty (e ∷ h) = omega (arith, few_after e.kind (dirty h), few_dirty h)
 
 -- each write back takes one
 pub write_backs : (first : ℕ) (by : Caller) (n : ℕ) (old new : List Entry) → FrontLeaves → WritesBack first by n old new → n + length (dirty new) ≡ length (dirty old)

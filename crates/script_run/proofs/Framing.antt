@@ -1,5 +1,5 @@
 -- Frames beside the fixes of a worker.
-use Rattle.std.proofs.Common.{◌≡◌, ◌≢◌, ℕ, zero, suc, Bool, true, false, cond, List, [], ◌∷◌, ◌++◌, ◌+◌, ◌-◌, ◌<◌, ◌≤◌, ◌^◌, Option, Some, None, IfSome, IsSome, length, refl, ap, ◌∙◌, sym, subst, nat_eq, eq-eqb, set, length-set, arith}
+use Rattle.std.proofs.Common.{◌≡◌, ◌≢◌, ℕ, zero, suc, Bool, true, false, cond, List, [], ◌∷◌, ◌++◌, ◌+◌, ◌-◌, ◌<◌, ◌≤◌, Option, Some, None, IfSome, IsSome, length, refl, ap, ◌∙◌, sym, subst, nat_eq, eq-eqb, set, length-set, arith}
 use Rattle.std.specs.Option.{option_map, option_map_or}
 use Rattle.std.proofs.lemmas.Bool.Decides.{nat_tests}
 use Rattle.std.proofs.lemmas.List.{get_or-set_same, get_or-set_other}
@@ -169,12 +169,18 @@ housed_mid : (h : List Entry) (xs : List Held) (x : Held) (ys : List Held) → A
 housed_mid h [] x ys was = was.1
 housed_mid h (y ∷ xs) x ys was = (was.0, housed_mid h xs x ys was.1)
 
+pub fewer_mid : (xs : List Held) (x : Held) (ys : List Held) → length (xs ++ ys) ≤ length (xs ++ x ∷ ys)
+fewer_mid [] x ys = omega arith
+fewer_mid (y ∷ xs) x ys = omega (arith, fewer_mid xs x ys)
+
 pub ready_given : {D : Type 0} (sense : Senses D) (desk : State D) (frames : Plain) (xs : List Held) (x : Held) (ys : List Held) → IsReady sense desk frames (xs ++ x ∷ ys) → IsReady sense desk (given_at frames x.frame) (xs ++ ys)
 ready_given sense desk frames xs x ys ready = record {
   tied = tied_given sense desk frames x.frame ready.tied;
   homes = ready.homes;
+  apart = ready.apart;
   housed = housed_mid desk.history xs x ys ready.housed;
   held = held_less frames.rows xs x ys ready.held;
+  few = omega (arith, fewer_mid xs x ys, ready.few);
 }
 
 -- the frame of a page is at rest between the calls
@@ -202,10 +208,10 @@ some_held sense desk frames xs x ys ready =
     omega (arith, n)
 
 -- few fixes leave room in each frame's word
-pub room_left : {D : Type 0} (sense : Senses D) (desk : State D) (frames : Plain) (fixed : List Held) (f : ℕ) → IsReady sense desk frames fixed → length fixed + 1 < 2 ^ 14 → f < length frames.rows → 0 < room_of frames f
-room_left sense desk frames fixed f ready few inside =
+pub room_left : {D : Type 0} (sense : Senses D) (desk : State D) (frames : Plain) (fixed : List Held) (f : ℕ) → IsReady sense desk frames fixed → f < length frames.rows → 0 < room_of frames f
+room_left sense desk frames fixed f ready inside =
     let n : held_of (row_in frames.rows f) ≡ fixes_in f fixed = ap (λ (h : Option ℕ). option_map_or (λ held. held) h 0) (ready.held f inside) in
-    omega (arith, n, fixes_few f fixed, few)
+    omega (arith, n, fixes_few f fixed, ready.few)
 
 none_told : IsSome {T = History} None → ⊥
 none_told some = absurd (cc)

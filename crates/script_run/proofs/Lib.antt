@@ -2,8 +2,12 @@ pub mod Fixes
 pub mod Values
 pub mod Growing
 pub mod Framing
+pub mod Exact
+pub mod Having
+pub mod Staying
 pub mod Doing
 pub mod Along
+pub mod Fixing
 pub mod Progress
 pub mod Flushing
 pub mod Finished

@@ -127,9 +127,6 @@ pub append_nil : {A : Type 0} → (xs : List A) → xs ++ [] ≡ xs
 append_nil [] = refl
 append_nil (x ∷ xs) = ap (λ t. x ∷ t) (append_nil xs)
 
-pub progress_start : {D : Type 0} (sense : Senses D) (o : Opening) (start : Start) (desk : State D) (log : Seen) (w : Working) (past : List Event) (commands : List Command) → SoFar sense o start desk log w past [] → Progress sense o start desk log w past commands commands
-progress_start sense o start desk log w past commands so = record { more = []; done = []; so_far = so; done_are = refl; held = refl; left = λ h tail t. t }
-
 pub progress_more : {D : Type 0} (sense : Senses D) (o : Opening) (start : Start) (desk new : State D) (was is : Seen) (w v : Working) (past : List Event) (commands : List Command) (c : Command) (rest : List Command)
     → v.pass ≡ w.pass → (so : Progress sense o start desk was w past commands (c ∷ rest)) → Does sense o start new is v (so.more ++ past) c → Progress sense o start new is v past commands rest
 progress_more sense o start desk new was is w v past commands c rest pass so does =

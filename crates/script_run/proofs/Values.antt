@@ -20,6 +20,9 @@ fix_leaves p f clock now = record { homes = λ q b. refl }
 pub put_leaves : (p : PageId) (at : ℕ) (bytes : List ℕ) (start end : ℕ) → Leaves (kind.Put p at bytes start end)
 put_leaves p at bytes start end = record { homes = λ q b. refl }
 
+pub write_leaves : (p : PageId) (lsn upto : ℕ) → Leaves (kind.Write p lsn upto)
+write_leaves p lsn upto = record { homes = λ q b. refl }
+
 pub refused_leaves : (c : Call) (why : Cause) → Leaves (kind.Refused c why)
 refused_leaves c why = record { homes = λ q b. refl }
 

@@ -92,13 +92,14 @@ handed told spaces disk_faults log log_faults = record { told = told; spaces = s
 abbrev pub start_of : Handed → Start
 start_of shelf = record { told = shelf.told; disk_faults = unwrap_or shelf.disk_faults 0; log_faults = unwrap_or shelf.log_faults 0 }
 
--- what a log's device is to a run: what it tells, and its count of faults
+-- what a log's device is to a run: what it tells, its length at its opening, and its count of faults
 pub record Reports (R : Type 0) : Type 0 where
   pub told : R → Option Told
+  pub opened : R → ℕ
   pub faults : R → ℕ
 
-abbrev pub reports : {R : Type 0} → (R → Option Told) → (R → ℕ) → Reports R
-reports told faults = record { told = told; faults = faults }
+abbrev pub reports : {R : Type 0} → (R → Option Told) → (R → ℕ) → (R → ℕ) → Reports R
+reports told opened faults = record { told = told; opened = opened; faults = faults }
 
 -- a told page is a page for what the history says was last written of it, and as it was handed out where nothing was
 abbrev pub IsSavedPage : Bool → Option (List ℕ) → Option Content → PageId → List ℕ → Type 0
@@ -243,14 +244,20 @@ pub record IsEnded {D R : Type 0} (left : Option (List ℕ)) (shelf : Handed) (s
   pub script : (bytes : List ℕ) → left ≡ Some bytes → IsScript bytes plan
   pub run : IsEndedRun shelf sense report plan fault trails disks log
 
+-- A log that was handed back as it was opened: its end and how far it is durable are its length then, and it tells what it told then.
+pub record IsLogAsOpened {R : Type 0} (was : Option Told) (report : Reports R) (log : RedoEnd R) : Type 0 where
+  pub ends : log.end ≡ report.opened log.disk
+  pub durable : log.durable ≡ log.end
+  pub told : report.told log.disk ≡ was
+
 -- The log is too long for the script's `lsn`: its last byte would have an LSN above 2^63. It is handed back as it was opened.
-pub record IsLongLog {R : Type 0} (left : Option (List ℕ)) (line : ℕ) (log : Option (RedoEnd R)) : Type 0 where
+pub record IsLongLog {R : Type 0} (left : Option (List ℕ)) (was : Option Told) (report : Reports R) (line : ℕ) (log : Option (RedoEnd R)) : Type 0 where
   pub plan : Plan
   pub script : (bytes : List ℕ) → left ≡ Some bytes → IsScript bytes plan
   pub end : RedoEnd R
   pub log_is : log ≡ Some end
   pub whole : line ≡ 0
-  pub opened : end.durable ≡ end.end
+  pub opened : IsLogAsOpened was report end
   pub beyond : 2 ^ 63 < plan.config.lsn + end.end
 
 -- the statuses at which a script was run to its end, and trails and disks are handed back

@@ -1,15 +1,16 @@
 -- A worker beside its desk: the trail so far is lawful, and both keep what it says.
-use Rattle.std.specs.Prelude.{ℕ, Bool, List, [], ◌∷◌, ◌++◌, ◌≡◌, ◌==◌, ◌+◌, ◌*◌, ◌<◌, ◌≤◌, Option, None, Some, IfSome, IsSomeAnd, length, filter, reverse, slice_range, false, if◌then◌else◌}
+use Rattle.std.specs.Prelude.{ℕ, Bool, List, [], ◌∷◌, ◌++◌, ◌≡◌, ◌==◌, ◌+◌, ◌*◌, ◌<◌, ◌≤◌, Option, None, Some, Result, Ok, Err, ⊤, IfSome, IsSomeAnd, length, filter, reverse, slice_range, false, if◌then◌else◌}
 use Rattle.page_ids.specs.Content.{Content, IsRange}
 use Rattle.page_ids.specs.declared.ids.PageId.{PageId}
 use Rattle.page_ids.specs.declared.config.Config.{Config}
-use Rattle.page_disk.specs.Disks.{IsSameDisk, pages_in}
+use Rattle.page_disk.specs.Disks.{pages_in}
 use Rattle.trail.specs.declared.event.Receipt.{Receipt}
 use Rattle.trail.specs.declared.event.Note.{Note}
 use Rattle.trail.specs.declared.event.Kind.{Kind}
 use Rattle.trail.specs.declared.event.Entry.{Entry}
 use Rattle.trail.specs.declared.event.Held.{Held}
 use Rattle.trail.specs.declared.event.Event.{Event}
+use Rattle.trail.specs.Alone.{AreExact}
 use Rattle.trail.specs.Places.{mark, entries, receipts}
 use Rattle.trail.specs.History.{home, disk_faults, log_faults}
 use Rattle.trail.specs.Dirt.{log_end}
@@ -25,7 +26,11 @@ use Rattle.desk.specs.Steps.{row_in}
 use Rattle.desk.specs.Tied.{AreTied}
 use Rattle.desk.specs.Base.{Opened}
 use Rattle.desk.specs.Behind.{IsBehind}
+use Rattle.desk.specs.Changes.{LeavesDesk}
 use Rattle.desk.specs.Logged.{IsLogged}
+use Rattle.desk.specs.declared.calls.Granted.{Granted}
+use Rattle.desk.specs.declared.calls.FixErr.{FixErr}
+use Rattle.desk.specs.declared.calls.FixErr.TheVariants as refusal
 use Rattle.script_text.specs.declared.script.Command.{Command}
 use Rattle.script_run.specs.Todo.{Answers, Todo, GivesBack}
 use Rattle.script_run.specs.Openings.{Start, opened_of, AreFaultsWithin}
@@ -78,6 +83,8 @@ pub record SoFar {D : Type 0} (sense : Senses D) (o : Opening) (start : Start) (
   pub held : held_by past worker.pass ≡ worker.fixed
   pub falling : AreFalling worker.next worker.fixed
   pub alone : AreOf worker.pass past
+  -- the worker is the only caller, so the words that it found are exactly what the trail says
+  pub exact : AreExact worker.pass past
 
 -- what stands on the disk and in the frames behind a desk
 abbrev pub IsBehindIt : {D : Type 0} → Senses D → Opened → State D → Plain → Type 0
@@ -120,6 +127,10 @@ AreHoused h (held ∷ more) = (home h held.page ≡ Some held.frame) × AreHouse
 abbrev pub AreInChunk : Config → List Entry → Type 0
 AreInChunk config h = (p : PageId) (f : ℕ) → home h p ≡ Some f → f < config.frames
 
+-- no two pages are at home in one frame
+abbrev pub AreApart : List Entry → Type 0
+AreApart h = (p q : PageId) (f : ℕ) → home h p ≡ Some f → home h q ≡ Some f → p ≡ q
+
 -- how many of the fixes are of the frame
 abbrev pub fixes_in : ℕ → List Held → ℕ
 fixes_in f [] = 0
@@ -129,12 +140,14 @@ fixes_in f (held ∷ more) = if held.frame == f then fixes_in f more + 1 else fi
 abbrev pub AreHeld : List Row → List Held → Type 0
 AreHeld rows fixed = (f : ℕ) → f < length rows → (row_in rows f).held ≡ Some (fixes_in f fixed)
 
--- What the next call of a worker with these fixes needs of desk and frames, and leaves true.
+-- What the next call of a worker with these fixes needs of desk and frames, and leaves true. A pass may hold 64.
 pub record IsReady {D : Type 0} (sense : Senses D) (desk : State D) (frames : Plain) (fixed : List Held) : Type 0 where
   pub tied : AreTied sense.tells sense.told sense.spaces (seen_of frames) desk
   pub homes : AreInChunk desk.config desk.history
+  pub apart : AreApart desk.history
   pub housed : AreHoused desk.history fixed
   pub held : AreHeld frames.rows fixed
+  pub few : length fixed ≤ 64
 
 -- the frame is there and not latched, and no frame is visited
 pub record IsAtRest (frames : Plain) (f : ℕ) : Type 0 where
@@ -150,19 +163,28 @@ HasRange image at len = IsSomeAnd image (λ told. IsSomeAnd told (λ c. IsRange 
 abbrev pub IsCopy : Option (Option Content) → ℕ → ℕ → List ℕ → Type 0
 IsCopy image at len bytes = IsSomeAnd image (λ told. IsSomeAnd told (λ c. bytes ≡ slice_range c.bytes at (at + len)))
 
+-- the answer is a refusal; want of memory is no answer
+abbrev pub IsRefusedFix : Result Granted FixErr → Type 0
+IsRefusedFix (Ok granted) = ⊥
+IsRefusedFix (Err refusal.OutOfMemory) = ⊥
+IsRefusedFix (Err (refusal.NoSuchPage pages)) = ⊤
+IsRefusedFix (Err (refusal.HoldFull held)) = ⊤
+IsRefusedFix (Err (refusal.AllFixed seen)) = ⊤
+IsRefusedFix (Err (refusal.RedoFault before after)) = ⊤
+IsRefusedFix (Err (refusal.DiskFault before after)) = ⊤
+IsRefusedFix (Err (refusal.BadPage bad)) = ⊤
+
 -- a fix of the frame was given back
 abbrev pub given_at : Plain → ℕ → Plain
 given_at p f = record (unheld_at p f) { visit = None }
 
 -- So many commands led from the one desk, its frames, log and worker to the other: what the next one's conditions ask.
 pub record Along {D : Type 0} (sense : Senses D) (n : ℕ) (old new : State D) (before after : Plain) (was is : Seen) (w v : Working) : Type 0 where
-  pub config : new.config ≡ old.config
-  pub grown : length new.history ≤ length old.history + 2 * n
+  pub left : LeavesDesk sense.size sense.tells sense.spaces sense.faults old new
+  pub grown : length new.history ≤ length old.history + 4 * n
   pub pass : v.pass ≡ w.pass
   pub next : v.next ≡ w.next + n
-  pub fewer : length v.fixed ≤ length w.fixed + n
   pub ready : IsReady sense old before w.fixed → IsReady sense new after v.fixed
-  pub disk : IsSameDisk sense.size sense.tells sense.told sense.spaces sense.faults old.disk new.disk
   pub behind : (o : Opened) → IsBehindIt sense o old before → IsBehindIt sense o new after
   pub log : IsLater was is
   pub known : log_end old.history ≤ was.end → log_end new.history ≤ is.end

@@ -1,7 +1,7 @@
 //! Reading a script to its end, and writing a text whole.
 ghost use Rattle.std.specs.Prelude.{◌≡◌, ◌≤◌, ◌<◌, ◌+◌, ◌⊎◌, ◌++◌, [], ℕ, List, true, false, Some, IfOk, IfErr, OnOk, OnErr, length, take, vec_len};
 ghost use Rattle.page_ids.specs.Faults.{Rose};
-ghost use Rattle.script_run.specs.Ends.{IsReadErr};
+ghost use Rattle.script_run.specs.Ends.{IsReadErr, IsTakenWithin};
 
 use page_disk::{Sink, Source};
 use page_ids::Failed;
@@ -26,6 +26,7 @@ fn take_piece<S: Source>(source: &mut S, piece: &mut Vec<u8>) -> Result<u32, Fai
     ensures piece { vec_len piece.new ≡ vec_len piece.old }
     ensures most { IfOk result (λ n. n ≤ vec_len piece.old) }
     ensures given { IfOk result (λ n. (bytes : List ℕ) → S.left source.old ≡ Some bytes → (rest : List ℕ) × (S.left source.new ≡ Some rest) × (bytes ≡ take n piece.new.items ++ rest) × (n ≡ 0 → bytes ≡ [])) }
+    ensures stays { OnErr result (S.left source.new ≡ S.left source.old) }
     ensures later { S.fault_count source.old ≤ S.fault_count source.new }
     ensures failed { OnErr result (Rose (S.fault_count source.old) (S.fault_count source.new)) }
 {
@@ -44,6 +45,7 @@ fn take_more<S: Source>(
     ensures most { OnOk result (vec_len all.new ≤ 1048577) }
     ensures grows { IfOk result (λ more. more ≡ true → vec_len all.old + 1 ≤ vec_len all.new) }
     ensures given { IfOk result (λ more. (bytes : List ℕ) → S.left source.old ≡ Some bytes → (rest : List ℕ) × (S.left source.new ≡ Some rest) × (all.old.items ++ bytes ≡ all.new.items ++ rest) × (more ≡ false → rest ≡ [])) }
+    ensures taken { IsTakenWithin (vec_len all.old) 1048577 (S.left source.old) (S.left source.new) }
     ensures later { S.fault_count source.old ≤ S.fault_count source.new }
     ensures refused { IfErr result (λ e. IsReadErr (S.fault_count source.old) (S.fault_count source.new) e) }
 {
@@ -63,6 +65,7 @@ fn take_more<S: Source>(
 /// Reads a source to its end, or to one byte more than a script may have.
 pub(crate) fn read_all<S: Source>(alloc: Global, source: &mut S) -> Result<Vec<u8>, ReadErr>
     ensures given { IfOk result (λ all. (bytes : List ℕ) → S.left source.old ≡ Some bytes → (rest : List ℕ) × (S.left source.new ≡ Some rest) × (bytes ≡ all.items ++ rest) × ((rest ≡ []) ⊎ (length all.items ≡ 1048577))) }
+    ensures taken { IsTakenWithin 0 1048577 (S.left source.old) (S.left source.new) }
     ensures refused { IfErr result (λ e. IsReadErr (S.fault_count source.old) (S.fault_count source.new) e) }
 {
     let Ok(mut piece) = vec![in alloc; 0; PIECE] else {

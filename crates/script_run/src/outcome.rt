@@ -20,7 +20,7 @@ use trail::Trail;
 /// | 7 | want of memory |
 ///
 /// At 0, 1, 5 and at 6 with a fault the trails, the disks and the log are here, else none; a log that is too long is here too. Nothing was
-/// written but at 0, 1 and 5.
+/// written to the sink but at 0, 1 and 5.
 #[derive(Drop)]
 pub struct Outcome<D: PageDisk, R: RedoDisk> {
     pub status: u8,

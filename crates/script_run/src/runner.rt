@@ -14,8 +14,9 @@ ghost use Rattle.desk.specs.Logged.{IsLogged};
 ghost use Rattle.script_text.specs.Plan.{Plan, commands_of};
 ghost use Rattle.script_text.specs.Within.{IsWithin};
 ghost use Rattle.script_text.specs.Verdict.{IsScript, IsBad};
+ghost use Rattle.script_run.specs.Ends.{IsTakenWithin};
 ghost use Rattle.script_run.specs.Work.{senses, IsReady, IsBehindIt};
-ghost use Rattle.script_run.specs.Runs.{IsFlushFault, IsFlushedWith, IsClosed, IsEndedRun, IsEnded, IsLongLog, HasEnded, IsRunStatus, IsSilent, IsNoScript, AreSynced};
+ghost use Rattle.script_run.specs.Runs.{IsFlushFault, IsFlushedWith, IsClosed, IsEndedRun, IsEnded, IsLongLog, IsLogAsOpened, HasEnded, IsRunStatus, IsSilent, IsNoScript, AreSynced};
 ghost use Rattle.script_run.specs.Runs.{IsWritten, IsWrittenInPart, AreRun, IsAskedOnce, handed, reports, is_refused, has_refusal};
 
 use crate::ends::{ReadErr, read_all, write_all};
@@ -85,7 +86,7 @@ fn close<D: PageDisk, R: RedoDisk>(
 ) -> Result<Option<FaultAt>, OutOfMemory>
     requires places { desk.old.state.config.first + 2 * length desk.old.state.history + 1 < 2 ^ 48 }
     requires ready { IsReady (senses D.page_size D.tells D.told D.space_pages D.fault_count) desk.old.state frames.old [] }
-    requires few { length desk.old.state.history < 16384 }
+    requires frames { desk.old.state.config.frames ≤ 8192 }
     requires known { log_end desk.old.state.history ≤ redo.old.seen.end }
     ensures closed { IfOk result (λ fault. IsClosed desk.old.state desk.new.state fault) }
     ensures fault { IfOk result (λ fault. IfSome fault (λ f. IsFlushedWith (D.fault_count desk.old.state.disk)
@@ -123,7 +124,7 @@ fn run_on<D: PageDisk, R: RedoDisk>(
     requires opened { IsAsOpened (R.opened log) (R.told log) }
     ensures run { IfOk result (λ e. IsEndedRun (handed (D.told disk) (Some (D.space_pages disk)) (Some (D.fault_count disk))
         (R.told log) (Some (R.fault_count log)))
-        (senses D.page_size D.tells D.told D.space_pages D.fault_count) (reports R.told R.fault_count)
+        (senses D.page_size D.tells D.told D.space_pages D.fault_count) (reports R.told R.opened R.fault_count)
         script.now e.fault (e.trail ∷ []) (e.disk ∷ []) (Some e.redo)) }
     ensures fault { IfOk result (λ e. IfSome e.fault (λ f. IsFlushFault f)) }
     ensures synced { IfOk result (λ e. e.fault ≡ None → IsTrue (D.synced e.disk)) }
@@ -260,9 +261,10 @@ fn run_script<K: Sink, H: Shelf>(
     ensures ended { HasEnded result.status result.fault → IsEndedRun (handed (H.disk_told shelf.old 0) (H.disk_spaces shelf.old 0) (H.disk_faults shelf.old 0)
         (H.log_told shelf.old) (H.log_faults shelf.old))
         (senses H.Disk.page_size H.Disk.tells H.Disk.told H.Disk.space_pages H.Disk.fault_count)
-        (reports H.Redo.told H.Redo.fault_count)
+        (reports H.Redo.told H.Redo.opened H.Redo.fault_count)
         script.now result.fault result.trails.items result.disks.items result.redo }
-    ensures long { result.status ≡ 3 → IsSomeAnd result.redo (λ r. (r.durable ≡ r.end) × (2 ^ 63 < script.now.config.lsn + r.end)) }
+    ensures long { result.status ≡ 3 → IsSomeAnd result.redo (λ r. IsLogAsOpened (H.log_told shelf.old)
+        (reports H.Redo.told H.Redo.opened H.Redo.fault_count) r × (2 ^ 63 < script.now.config.lsn + r.end)) }
     ensures bare { (HasEnded result.status result.fault → ⊥) → (result.trails.items ≡ []) × (result.disks.items ≡ [])
         × (result.fault ≡ None) × (result.status ≢ 3 → result.redo ≡ None) }
     ensures fault { IfSome result.fault (λ f. (result.status ≡ 6) × IsFlushFault f) }
@@ -327,7 +329,8 @@ fn judge_words(alloc: Global, words: &[String]) -> Result<(), WordsErr>
 ///
 /// The words are those behind the program's name: `run SPACE FILE LOG`. What the statuses say stands at [`Outcome`].
 /// Whatever the words, the script's bytes and the devices' answers: the trail is one lawful history of a plain page map, in which
-/// thread 1 does what its commands say, each call once and in order; the disk holds what the trail says, synced, and the log keeps each change.
+/// thread 1 does what its commands say, each call once and in order. Behind a closing flush that didn't fail the disk holds what the
+/// trail says, synced, and the log keeps each change.
 pub fn run<R, S: Source, K: Sink, H: Shelf>(
     rt: &R,
     alloc: Global,
@@ -341,15 +344,15 @@ pub fn run<R, S: Source, K: Sink, H: Shelf>(
     ensures usage_only { (AreRun (map string_bytes words.now) → ⊥) → (result.status ≡ 2) ⊎ (result.status ≡ 7) }
     ensures unread { result.status ≡ 2 → (script.new ≡ script.old) × (shelf.new ≡ shelf.old) }
     ensures read_fault { result.status ≡ 4 → Rose (S.fault_count script.old) (S.fault_count script.new) }
-    ensures bad_script { result.status ≡ 3 → ((bytes : List ℕ) → S.left script.old ≡ Some bytes → IsBad bytes result.line)
-        ⊎ IsLongLog (S.left script.old) result.line result.redo }
+    ensures bad_script { result.status ≡ 3 → (((bytes : List ℕ) → S.left script.old ≡ Some bytes → IsBad bytes result.line) × (result.redo ≡ None))
+        ⊎ IsLongLog (S.left script.old) (H.log_told shelf.old) (reports H.Redo.told H.Redo.opened H.Redo.fault_count) result.line result.redo }
     ensures bad_only { (bytes : List ℕ) (n : ℕ) → S.left script.old ≡ Some bytes → IsBad bytes n → IsNoScript result.status result.line n }
     ensures line { result.status ≢ 3 → result.line ≡ 0 }
     ensures opening { result.status ≡ 6 → result.fault ≡ None → Rose (H.fault_count shelf.old) (H.fault_count shelf.new) }
     ensures ended { HasEnded result.status result.fault → IsEnded (S.left script.old) (handed (H.disk_told shelf.old 0) (H.disk_spaces shelf.old 0) (H.disk_faults shelf.old 0)
         (H.log_told shelf.old) (H.log_faults shelf.old))
         (senses H.Disk.page_size H.Disk.tells H.Disk.told H.Disk.space_pages H.Disk.fault_count)
-        (reports H.Redo.told H.Redo.fault_count)
+        (reports H.Redo.told H.Redo.opened H.Redo.fault_count)
         result.fault result.trails.items result.disks.items result.redo }
     ensures read_whole { HasEnded result.status result.fault → (bytes : List ℕ) → S.left script.old ≡ Some bytes → S.left script.new ≡ Some [] }
     ensures bare { (HasEnded result.status result.fault → ⊥) → (result.trails.items ≡ []) × (result.disks.items ≡ [])
@@ -361,6 +364,7 @@ pub fn run<R, S: Source, K: Sink, H: Shelf>(
     ensures unwritten { IsSilent result.status → out.new ≡ out.old }
     ensures unasked { (result.status ≡ 4) ⊎ ((result.status ≡ 3) × (result.redo ≡ None)) → shelf.new ≡ shelf.old }
     ensures asked { H.asked shelf.old ≡ unasked → (H.asked shelf.new ≡ unasked) ⊎ IsAskedOnce (S.left script.old) (H.asked shelf.new) }
+    ensures taken { IsTakenWithin 0 1048577 (S.left script.old) (S.left script.new) }
     ensures synced { HasEnded result.status result.fault → result.fault ≡ None → AreSynced H.Disk.synced result.disks.items }
 {
     let _rt = rt;

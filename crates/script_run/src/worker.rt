@@ -1,7 +1,6 @@
 //! A thread of a script: its calls, one after the other.
-ghost use Rattle.std.specs.Prelude.{◌≡◌, ◌<◌, ◌≤◌, ◌+◌, ◌*◌, ◌^◌, ℕ, List, [], Some, None, OnOk, IfOk, IsSome, IfSome, IfNone, length, slice_get, reverse};
+ghost use Rattle.std.specs.Prelude.{◌≡◌, ◌<◌, ◌≤◌, ◌+◌, ◌*◌, ◌^◌, ℕ, List, [], Some, None, Ok, OnOk, IfOk, IsSome, IfSome, IfNone, length, slice_get, reverse};
 ghost use Rattle.std.specs.List.{AllByRecursion};
-ghost use Rattle.page_disk.specs.Disks.{IsSameDisk};
 ghost use Rattle.trail.specs.Calls.{newest_of};
 ghost use Rattle.trail.specs.Opening.{Opening};
 ghost use Rattle.trail.specs.declared.event.Event.{Event};
@@ -11,11 +10,12 @@ ghost use Rattle.script_text.specs.Within.{IsInRange};
 ghost use Rattle.redo_mark.specs.Logs.{Seen, IsLater};
 ghost use Rattle.trail.specs.Dirt.{log_end};
 ghost use Rattle.desk.specs.Base.{Opened};
+ghost use Rattle.desk.specs.Changes.{LeavesDesk};
 ghost use Rattle.script_run.specs.Openings.{Start};
-ghost use Rattle.script_run.specs.Work.{senses, SoFar, StandsBehind, IsBehindIt, Does, noted_at, Along, IsReady, IsAtRest, HasRange, IsCopy, given_at, Progress, Ending, Worked};
+ghost use Rattle.script_run.specs.Work.{senses, SoFar, StandsBehind, IsBehindIt, Does, noted_at, Along, IsReady, IsAtRest, HasRange, IsCopy, IsRefusedFix, given_at, Progress, Ending, Worked};
 ghost use Rattle.script_run.specs.Workers.{working};
 
-use desk::{Caller, Desk, FixErr, PutErr};
+use desk::{Caller, Desk, FixErr, Granted, PutErr};
 use frame_words::{Frames, PlainFrames};
 use page_disk::PageDisk;
 use page_ids::{Bytes, OutOfMemory, PageId};
@@ -59,6 +59,23 @@ fn copied(
     Ok((Bytes::of(bytes), clock))
 }
 
+/// The grant in the answer of a fix; none where it was refused. Want of memory is no answer.
+fn grant_in(answer: Result<Granted, FixErr>) -> Result<Option<Granted>, OutOfMemory>
+    ensures granted { IfOk result (λ granted. IfSome granted (λ grant. answer ≡ Ok grant)) }
+    ensures refused { IfOk result (λ granted. granted ≡ None → IsRefusedFix answer) }
+{
+    match answer {
+        Ok(granted) => Ok(Some(granted)),
+        Err(FixErr::OutOfMemory) => Err(OutOfMemory),
+        Err(FixErr::NoSuchPage { .. }) => Ok(None),
+        Err(FixErr::HoldFull { .. }) => Ok(None),
+        Err(FixErr::AllFixed { .. }) => Ok(None),
+        Err(FixErr::RedoFault { .. }) => Ok(None),
+        Err(FixErr::DiskFault { .. }) => Ok(None),
+        Err(FixErr::BadPage(_)) => Ok(None),
+    }
+}
+
 /// Gives a fix of a frame back.
 fn let_go(frames: &mut PlainFrames, frame: u32)
     requires rest { IsAtRest frames.old frame }
@@ -96,54 +113,44 @@ impl Worker {
     }
 
     /// Fixes a page. A refusal is an answer too.
-    fn fix<D: PageDisk>(
+    fn fix<D: PageDisk, R: RedoDisk>(
         &mut self,
         desk: &mut Desk<D>,
         frames: &mut PlainFrames,
+        redo: &mut Redo<R>,
         page: PageId,
         now: u64,
     ) -> Result<(), OutOfMemory>
-        requires places { desk.old.state.config.first + length desk.old.state.history + 2 < 2 ^ 48 }
+        requires places { desk.old.state.config.first + length desk.old.state.history + 4 < 2 ^ 48 }
         requires number { self.old.next + 1 < 2 ^ 32 }
-        requires few { length self.old.fixed.items + 1 < 2 ^ 14 }
         requires ready { IsReady (senses D.page_size D.tells D.told D.space_pages D.fault_count) desk.old.state frames.old (reverse self.old.fixed.items) }
-        ensures along { OnOk result ((log : Seen) → Along (senses D.page_size D.tells D.told D.space_pages D.fault_count) 1
-            desk.old.state desk.new.state frames.old frames.new log log (working self.old) (working self.new)) }
-        ensures done { OnOk result ((o : Opening) (start : Start) (log : Seen) (past : List Event)
-            → SoFar (senses D.page_size D.tells D.told D.space_pages D.fault_count) o start desk.old.state log (working self.old) past []
+        requires known { log_end desk.old.state.history ≤ redo.old.seen.end }
+        ensures along { OnOk result (Along (senses D.page_size D.tells D.told D.space_pages D.fault_count) 1
+            desk.old.state desk.new.state frames.old frames.new redo.old.seen redo.new.seen (working self.old) (working self.new)) }
+        ensures done { OnOk result ((o : Opening) (start : Start) (past : List Event)
+            → SoFar (senses D.page_size D.tells D.told D.space_pages D.fault_count) o start desk.old.state redo.old.seen (working self.old) past []
             → StandsBehind (senses D.page_size D.tells D.told D.space_pages D.fault_count) o start desk.old.state frames.old
-            → Does (senses D.page_size D.tells D.told D.space_pages D.fault_count) o start desk.new.state log (working self.new) past (Command.Fix page now)) }
+            → Does (senses D.page_size D.tells D.told D.space_pages D.fault_count) o start desk.new.state redo.new.seen (working self.new) past (Command.Fix page now)) }
+        ensures opening { redo.new.opening ≡ redo.old.opening }
     {
         self.fixed.reserve(1)?;
         let number = self.next;
+        let held = self.fixed.len() as u32;
         let by = Caller {
             pass: self.pass,
             number,
         };
-        match desk.fix_at(frames, by, page, now) {
-            Ok(granted) => {
-                self.next = number + 1;
-                self.fixed.push_reserved(Held {
-                    page,
-                    frame: granted.frame,
-                    number,
-                });
-                Ok(())
-            }
-            Err(FixErr::OutOfMemory) => Err(OutOfMemory),
-            Err(FixErr::NoSuchPage { .. }) => {
-                self.next = number + 1;
-                Ok(())
-            }
-            Err(FixErr::DiskFault { .. }) => {
-                self.next = number + 1;
-                Ok(())
-            }
-            Err(FixErr::BadPage(_)) => {
-                self.next = number + 1;
-                Ok(())
-            }
+        let answer = desk.fix_at(frames, redo, by, held, page, now);
+        let granted = grant_in(answer)?;
+        self.next = number + 1;
+        if let Some(Granted { frame, .. }) = granted {
+            self.fixed.push_reserved(Held {
+                page,
+                frame,
+                number,
+            });
         }
+        Ok(())
     }
 
     /// Leaves the receipt of a call, at the desk's mark.
@@ -334,9 +341,8 @@ impl Worker {
         redo: &mut Redo<R>,
         command: &Command,
     ) -> Result<(), OutOfMemory>
-        requires places { desk.old.state.config.first + length desk.old.state.history + 2 < 2 ^ 48 }
+        requires places { desk.old.state.config.first + length desk.old.state.history + 4 < 2 ^ 48 }
         requires number { self.old.next + 1 < 2 ^ 32 }
-        requires few { length self.old.fixed.items + 1 < 2 ^ 14 }
         requires ready { IsReady (senses D.page_size D.tells D.told D.space_pages D.fault_count) desk.old.state frames.old (reverse self.old.fixed.items) }
         requires range { IsInRange desk.old.state.config.page command.now }
         requires known { log_end desk.old.state.history ≤ redo.old.seen.end }
@@ -349,7 +355,7 @@ impl Worker {
         ensures opening { redo.new.opening ≡ redo.old.opening }
     {
         match command {
-            Command::Fix { page, now } => self.fix(desk, frames, *page, *now),
+            Command::Fix { page, now } => self.fix(desk, frames, redo, *page, *now),
             Command::Read { page, at, len } => self.read(alloc, desk, frames, *page, *at, *len),
             Command::Put { page, at, bytes } => self.put(
                 desk,
@@ -372,9 +378,8 @@ impl Worker {
         redo: &mut Redo<R>,
         commands: &[Command],
     ) -> Result<(), OutOfMemory>
-        requires places { desk.old.state.config.first + length desk.old.state.history + 2 * length commands.now + 2 < 2 ^ 48 }
+        requires places { desk.old.state.config.first + length desk.old.state.history + 4 * length commands.now < 2 ^ 48 }
         requires number { self.old.next + length commands.now < 2 ^ 32 }
-        requires few { length self.old.fixed.items + length commands.now < 2 ^ 14 }
         requires ready { IsReady (senses D.page_size D.tells D.told D.space_pages D.fault_count) desk.old.state frames.old (reverse self.old.fixed.items) }
         requires ranges { AllByRecursion (IsInRange desk.old.state.config.page) commands.now }
         requires known { log_end desk.old.state.history ≤ redo.old.seen.end }
@@ -456,17 +461,14 @@ impl Worker {
         redo: &mut Redo<R>,
         commands: &[Command],
     ) -> Result<(), OutOfMemory>
-        requires places { desk.old.state.config.first + length desk.old.state.history + 2 * length commands.now + 2 < 2 ^ 48 }
-        requires number { self.old.next + 2 * length commands.now < 2 ^ 32 }
-        requires few { length commands.now < 2 ^ 14 }
+        requires places { desk.old.state.config.first + length desk.old.state.history + 4 * length commands.now < 2 ^ 48 }
+        requires number { self.old.next + length commands.now + 64 < 2 ^ 32 }
         requires new { length self.old.fixed.items ≡ 0 }
         requires ready { IsReady (senses D.page_size D.tells D.told D.space_pages D.fault_count) desk.old.state frames.old (reverse self.old.fixed.items) }
         requires ranges { AllByRecursion (IsInRange desk.old.state.config.page) commands.now }
         requires known { log_end desk.old.state.history ≤ redo.old.seen.end }
-        ensures config { OnOk result (desk.new.state.config ≡ desk.old.state.config) }
-        ensures grown { OnOk result (length desk.new.state.history ≤ length desk.old.state.history + 2 * length commands.now) }
-        ensures disk { OnOk result (IsSameDisk D.page_size D.tells D.told D.space_pages D.fault_count
-            desk.old.state.disk desk.new.state.disk) }
+        ensures left { OnOk result (LeavesDesk D.page_size D.tells D.space_pages D.fault_count desk.old.state desk.new.state) }
+        ensures grown { OnOk result (length desk.new.state.history ≤ length desk.old.state.history + 4 * length commands.now) }
         ensures ready { OnOk result (IsReady (senses D.page_size D.tells D.told D.space_pages D.fault_count) desk.new.state frames.new []) }
         ensures behind { OnOk result ((o : Opened) → IsBehindIt (senses D.page_size D.tells D.told D.space_pages D.fault_count) o desk.old.state frames.old
             → IsBehindIt (senses D.page_size D.tells D.told D.space_pages D.fault_count) o desk.new.state frames.new) }

@@ -4,7 +4,7 @@ use Rattle.std.specs.Prelude.{◌==◌, ◌||◌, not}
 use Rattle.std.specs.List.{AllByRecursion}
 use Rattle.std.proofs.lemmas.Option.{cond_some}
 use Rattle.std.proofs.lemmas.Bool.Decides.{nat_tests}
-use Rattle.std.proofs.lemmas.List.{length-append}
+use Rattle.std.proofs.lemmas.List.Sums.{sum_by_push}
 use Rattle.std.proofs.lemmas.Nat.{le-div}
 use Rattle.std.proofs.Math.Nat.{mul-le-mul}
 use Rattle.page_ids.specs.Chunks.{unit_of, chunks_of}
@@ -14,8 +14,8 @@ use Rattle.page_ids.specs.declared.ids.PageSize.{PageSize}
 use Rattle.page_ids.specs.declared.ids.PageSize.TheVariants.{Kib4, Kib8, Kib16}
 use Rattle.script_text.specs.Plan.{Plan, first_thread}
 use Rattle.script_text.specs.Text.{IsTyped, IsTypedItem, IsSpelled}
-use Rattle.script_text.specs.Grammar.{SoFar, nothing_said, was_set, is_settable, with_setting, is_in_range, with_command, step, AreRead, lines_of}
-use Rattle.script_text.specs.Faults.{has_several_chunks, names_too_many_pages, is_faulty}
+use Rattle.script_text.specs.Grammar.{SoFar, nothing_said, was_set, is_settable, with_setting, is_in_range, calls_of, calls_in, with_command, step, AreRead, lines_of}
+use Rattle.script_text.specs.Faults.{has_several_chunks, is_faulty}
 use Rattle.script_text.specs.Verdict.{IsScript, plan_of}
 use Rattle.script_text.specs.Within.{IsSettled, IsInRange, IsWithin}
 use Rattle.script_text.specs.declared.script.Command.{Command}
@@ -28,8 +28,8 @@ use Rattle.script_text.specs.declared.lines.Item.TheVariants.{Nothing, Set, Thre
 record Kept (s : SoFar) : Type 0 where
   pub config : IsSettled s.config
   pub threads : length s.threads ≤ 1
-  pub few : length (first_thread s.threads) ≤ s.commands
-  pub limit : s.commands ≤ 64
+  pub calls : calls_in (first_thread s.threads) ≤ s.calls
+  pub limit : s.calls ≤ 65536
   pub ranges : AllByRecursion (IsInRange s.config.page) (first_thread s.threads)
 
 -- a setting in its range leaves the pool's numbers in theirs
@@ -57,21 +57,21 @@ kept_set : (s : SoFar) (name : Setting) (n : ℕ) (bits : List Bool) → s.threa
 kept_set s name n bits none r h = record {
   config = settled s.config name n r h.config;
   threads = h.threads;
-  few = h.few;
+  calls = h.calls;
   limit = h.limit;
   ranges = subst (λ (ts : List (List Command)). AllByRecursion (IsInRange (with_setting s.config name n).page) (first_thread ts)) (sym none) tt;
 }
 
 kept_thread : (s : SoFar) → s.threads ≡ [] → Kept s → Kept (record s { threads = s.threads ++ [] ∷ [] })
-kept_thread s none h = rw none (record { config = h.config; threads = omega arith; few = omega arith; limit = h.limit; ranges = tt })
+kept_thread s none h = rw none (record { config = h.config; threads = omega arith; calls = omega arith; limit = h.limit; ranges = tt })
 
-kept_command : (s : SoFar) (c : Command) (ts : List (List Command)) → s.threads ≡ ts → 0 < length ts → IsInRange s.config.page c → s.commands < 64 → Kept s
-    → Kept (record s { threads = with_command s.threads c; commands = s.commands + 1 })
+kept_command : (s : SoFar) (c : Command) (ts : List (List Command)) → s.threads ≡ ts → 0 < length ts → IsInRange s.config.page c → s.calls + calls_of c ≤ 65536 → Kept s
+    → Kept (record s { threads = with_command s.threads c; calls = s.calls + calls_of c })
 kept_command s c [] is some r few h = absurd (omega (arith, some))
 kept_command s c (cs ∷ []) is some r few h =
-    let short : length cs ≤ s.commands = subst (λ (x : List (List Command)). length (first_thread x) ≤ s.commands) is h.few in
+    let so_far : calls_in cs ≤ s.calls = subst (λ (x : List (List Command)). calls_in (first_thread x) ≤ s.calls) is h.calls in
     let all : AllByRecursion (IsInRange s.config.page) cs = subst (λ (x : List (List Command)). AllByRecursion (IsInRange s.config.page) (first_thread x)) is h.ranges in
-    rw is (record { config = h.config; threads = omega arith; few = omega (arith, short, length-append cs (c ∷ [])); limit = omega (arith, few); ranges = one_more s.config.page cs c all r })
+    rw is (record { config = h.config; threads = omega arith; calls = omega (arith, so_far, sum_by_push calls_of cs c); limit = few; ranges = one_more s.config.page cs c all r })
 kept_command s c (cs ∷ ds ∷ ts) is some r few h = absurd (omega (arith, h.threads, ap length is))
 
 nothing_in : (ts : List (List Command)) → length ts ≡ 0 → ts ≡ []
@@ -90,10 +90,10 @@ kept_step s t (Thread k) typed e h =
     let none : length s.threads ≡ 0 = grind (arith, nat_tests, parts.0) in
     subst (λ (x : SoFar). Kept x) parts.1 (kept_thread s (nothing_in s.threads none) h)
 kept_step s t (Does c) typed e h =
-    let parts = cond_some (nat_lt 0 (length s.threads) && is_in_range s.config.page c && nat_lt s.commands 64) _ t e in
+    let parts = cond_some (nat_lt 0 (length s.threads) && is_in_range s.config.page c && nat_le (s.calls + calls_of c) 65536) _ t e in
     let some_thread : 0 < length s.threads = grind (arith, nat_tests, parts.0) in
     let range : is_in_range s.config.page c ≡ true = grind (arith, nat_tests, parts.0) in
-    let few : s.commands < 64 = grind (arith, nat_tests, parts.0) in
+    let few : s.calls + calls_of c ≤ 65536 = grind (arith, nat_tests, parts.0) in
     subst (λ (x : SoFar). Kept x) parts.1 (kept_command s c s.threads refl some_thread (in_range s.config.page c typed range) few h)
 
 is_item : (i : Item) (line : List ℕ) → IsSpelled i line → IsTypedItem i
@@ -110,7 +110,7 @@ kept_at_start : Kept nothing_said
 kept_at_start = record {
   config = record { instances = refl; frames = (omega arith, omega arith); size = (omega arith, omega arith); max = (omega arith, omega arith); pct = (omega arith, omega arith); time = omega arith; min = (omega arith, omega arith); lsn = (omega arith, omega arith); first = refl };
   threads = omega arith;
-  few = omega arith;
+  calls = omega arith;
   limit = omega arith;
   ranges = tt;
 }
@@ -137,33 +137,25 @@ some_chunk c h = rounded_up c.size (unit_of c) h.size.0 (some_unit c h)
     rounded_up : (n u : ℕ) → 1 ≤ n → 1 ≤ u → 1 ≤ (n + u - 1) / u
     rounded_up n u some_n some_u = le-div 1 (n + u - 1) u some_u (omega (arith, some_n, some_u))
 
--- a whole without a fault has none of them
-record HasNone (plan : Plan) : Type 0 where
-  pub chunks : has_several_chunks plan.config ≡ false
-  pub pages : names_too_many_pages plan ≡ false
+or_second : (a b : Bool) → (a || b) ≡ false → b ≡ false
+or_second false b e = e
+or_second true b e = let bad : true ≡ false = e in absurd (cc)
 
-or_parts : (a b : Bool) → (a || b) ≡ false → (a ≡ false) × (b ≡ false)
-or_parts false b e = (refl, e)
-or_parts true b e = let bad : true ≡ false = e in absurd (cc)
-
-none_of : (plan : Plan) → is_faulty plan ≡ false → HasNone plan
-none_of plan e =
-    let pages = or_parts _ (names_too_many_pages plan) e in
-    let chunks = or_parts _ (has_several_chunks plan.config) pages.0 in
-    record { chunks = chunks.1; pages = pages.1 }
+-- a whole without a fault doesn't have this one
+not_several : (plan : Plan) → is_faulty plan ≡ false → has_several_chunks plan.config ≡ false
+not_several plan e = or_second _ (has_several_chunks plan.config) e
 
 -- a script keeps its limits
 pub within_of : (bytes : List ℕ) (plan : Plan) → IsScript bytes plan → IsWithin plan
 within_of bytes plan h =
     let kept : Kept h.last = kept_read nothing_said h.last (lines_of bytes) h.read kept_at_start in
-    let none = none_of (plan_of h.last) h.sound in
-    let few_chunks : chunks_of h.last.config ≤ 1 = grind (arith, nat_tests, none.chunks) in
+    let one = not_several (plan_of h.last) h.sound in
+    let few_chunks : chunks_of h.last.config ≤ 1 = grind (arith, nat_tests, one) in
     let some_chunks : 1 ≤ chunks_of h.last.config = some_chunk h.last.config kept.config in
     subst (λ (p : Plan). IsWithin p) (sym h.asked) (record {
       config = kept.config;
       chunks = omega (arith, few_chunks, some_chunks);
       threads = kept.threads;
-      few = omega (arith, kept.few, kept.limit);
+      calls = omega (arith, kept.calls, kept.limit);
       ranges = kept.ranges;
-      pages = grind (arith, nat_tests, none.pages);
     })

@@ -1,6 +1,6 @@
 -- What the lines of a script make, one after the other: ranges, order and limits.
 use Rattle.std.specs.Prelude.{ℕ, Bool, true, false, List, [], ◌∷◌, ◌++◌, ◌≡◌, ◌==◌, ◌+◌, ◌-◌, ◌^◌, ◌&&◌, nat_le, nat_lt, not, Option, None, Some, if◌then◌else◌, length, slice_index_or, slice_set}
-use Rattle.std.specs.List.{slice_split}
+use Rattle.std.specs.List.{slice_split, sum_by}
 use Rattle.page_ids.specs.Size.{page_bytes, is_page_size}
 use Rattle.page_ids.specs.declared.config.Config.{Config}
 use Rattle.page_ids.specs.declared.ids.PageSize.{PageSize}
@@ -13,12 +13,12 @@ use Rattle.script_text.specs.declared.lines.Setting.TheVariants.{Page, Frames, S
 use Rattle.script_text.specs.declared.lines.Item.{Item}
 use Rattle.script_text.specs.declared.lines.Item.TheVariants.{Nothing, Set, Thread, Does}
 
--- What the lines so far said: the pool's numbers, which settings were set, the commands of each thread, and how many these are.
+-- What the lines so far said: the pool's numbers, which settings were set, the commands of each thread, and how many calls these make.
 pub record SoFar : Type 0 where
   pub config : Config
   pub settings : List Bool
   pub threads : List (List Command)
-  pub commands : ℕ
+  pub calls : ℕ
 
 -- the pool's numbers where a script sets none
 abbrev pub usual : Config
@@ -36,7 +36,7 @@ usual = record {
 }
 
 abbrev pub nothing_said : SoFar
-nothing_said = record { config = usual; settings = false ∷ false ∷ false ∷ false ∷ false ∷ false ∷ false ∷ false ∷ []; threads = []; commands = 0 }
+nothing_said = record { config = usual; settings = false ∷ false ∷ false ∷ false ∷ false ∷ false ∷ false ∷ false ∷ []; threads = []; calls = 0 }
 
 -- the setting's place among those that a script may set
 abbrev pub place_of : Setting → ℕ
@@ -91,12 +91,23 @@ is_in_range size (Read p at len) = is_in_body size at len
 is_in_range size (Put p at bytes) = is_in_body size at (length bytes)
 is_in_range size (Unfix p) = true
 
+-- how many calls a command makes
+abbrev pub calls_of : Command → ℕ
+calls_of (Fix p now) = 1
+calls_of (Read p at len) = 1
+calls_of (Put p at bytes) = 1
+calls_of (Unfix p) = 1
+
+-- how many calls all of them make
+abbrev pub calls_in : List Command → ℕ
+calls_in commands = sum_by calls_of commands
+
 -- the command stands at the end of the last thread
 abbrev pub with_command : List (List Command) → Command → List (List Command)
 with_command threads c = slice_set threads (length threads - 1) (slice_index_or threads (length threads - 1) [] ++ c ∷ [])
 
 -- What an item makes of what was said, where it may stand there: settings come first, each at most once; then `thread 1`; then its
--- commands, at most 64.
+-- commands, with at most 65536 calls.
 abbrev pub step : SoFar → Item → Option SoFar
 step s Nothing = Some s
 step s (Set name n) =
@@ -108,8 +119,8 @@ step s (Thread k) =
     then Some (record s { threads = s.threads ++ [] ∷ [] })
     else None
 step s (Does c) =
-    if nat_lt 0 (length s.threads) && is_in_range s.config.page c && nat_lt s.commands 64
-    then Some (record s { threads = with_command s.threads c; commands = s.commands + 1 })
+    if nat_lt 0 (length s.threads) && is_in_range s.config.page c && nat_le (s.calls + calls_of c) 65536
+    then Some (record s { threads = with_command s.threads c; calls = s.calls + calls_of c })
     else None
 
 -- what a line makes of it

@@ -7,7 +7,7 @@ use Rattle.page_ids.specs.declared.config.Config.{Config}
 use Rattle.page_ids.specs.declared.ids.PageSize.{PageSize}
 use Rattle.script_text.specs.Plan.{Plan, commands_of}
 use Rattle.script_text.specs.Text.{IsPageId, AreBytes}
-use Rattle.script_text.specs.Faults.{pages_named}
+use Rattle.script_text.specs.Grammar.{calls_in}
 use Rattle.script_text.specs.declared.script.Command.{Command}
 use Rattle.script_text.specs.declared.script.Command.TheVariants.{Fix, Read, Put, Unfix}
 
@@ -36,6 +36,5 @@ pub record IsWithin (plan : Plan) : Type 0 where
   pub config : IsSettled plan.config
   pub chunks : chunks_of plan.config ≡ 1
   pub threads : length plan.threads ≤ 1
-  pub few : length (commands_of plan) ≤ 64
+  pub calls : calls_in (commands_of plan) ≤ 65536
   pub ranges : AllByRecursion (IsInRange plan.config.page) (commands_of plan)
-  pub pages : pages_named (commands_of plan) ≤ plan.config.frames

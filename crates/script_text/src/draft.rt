@@ -1,7 +1,7 @@
 //! What the lines of a script said so far.
 ghost use Rattle.std.specs.Prelude.{◌≡◌, ◌<◌, map, vec_len, IfOk, OnOk, Some, None, true, if◌then◌else◌};
 ghost use Rattle.page_ids.specs.Size.{is_page_size};
-ghost use Rattle.script_text.specs.Grammar.{place_of, is_settable, size_of, with_setting, is_in_body, is_in_range, with_command, step, usual, nothing_said};
+ghost use Rattle.script_text.specs.Grammar.{place_of, is_settable, size_of, with_setting, is_in_body, is_in_range, calls_of, with_command, step, usual, nothing_said};
 ghost use Rattle.script_text.specs.Verdict.{plan_of};
 
 use crate::lines::{Item, Setting};
@@ -16,7 +16,7 @@ pub struct Draft {
     config: Config,
     settings: [bool; 8],
     threads: Vec<Vec<Command>>,
-    commands: u32,
+    calls: u32,
 }
 
 impl Model for Draft {
@@ -25,7 +25,7 @@ impl Model for Draft {
 
     ghost Value = { SoFar };
 
-    ghost view = { λ d. record { config = d.config; settings = d.settings; threads = map (λ t. t.items) d.threads.items; commands = d.commands } };
+    ghost view = { λ d. record { config = d.config; settings = d.settings; threads = map (λ t. t.items) d.threads.items; calls = d.calls } };
 }
 
 /// The numbers of a pool where a script sets none.
@@ -143,6 +143,18 @@ fn is_in_range(size: PageSize, command: &Command) -> bool
     }
 }
 
+/// How many calls the command makes.
+fn calls_of(command: &Command) -> u32
+    ensures { result ≡ calls_of command.now }
+{
+    match command {
+        Command::Fix { .. } => 1,
+        Command::Read { .. } => 1,
+        Command::Put { .. } => 1,
+        Command::Unfix { .. } => 1,
+    }
+}
+
 /// Puts the command at the end of the last thread.
 fn push_command(threads: &mut Vec<Vec<Command>>, command: Command) -> Result<(), AllocError>
     requires some { 0 < vec_len threads.old }
@@ -164,7 +176,7 @@ impl Draft {
             config: usual(),
             settings: [false; 8],
             threads: Vec::new(alloc),
-            commands: 0,
+            calls: 0,
         }
     }
 
@@ -196,14 +208,12 @@ impl Draft {
         ensures { IfOk result (λ good.
             step self.old (Item.Does command) ≡ (if good then Some self.new else None)) }
     {
-        if self.threads.is_empty()
-            || !is_in_range(self.config.page, &command)
-            || self.commands >= 64
-        {
+        let calls = u64::from(self.calls) + u64::from(calls_of(&command));
+        if self.threads.is_empty() || !is_in_range(self.config.page, &command) || calls > 65536 {
             return Ok(false);
         }
         push_command(&mut self.threads, command)?;
-        self.commands += 1;
+        self.calls = calls as u32;
         Ok(true)
     }
 

@@ -2,16 +2,15 @@
 ghost use Rattle.std.specs.Prelude.{◌≡◌, ◌+◌, ◌≤◌, ◌∷◌, ◌⊎◌, ℕ, [], length, IfOk, MatchResult, Err};
 ghost use Rattle.script_text.specs.Plan.{Plan};
 ghost use Rattle.script_text.specs.Grammar.{Takes, AreRead, lines_of, nothing_said};
-ghost use Rattle.script_text.specs.Faults.{is_fixed, pages_named, is_faulty};
+ghost use Rattle.script_text.specs.Faults.{is_faulty};
 ghost use Rattle.script_text.specs.Verdict.{IsBadLine, IsScript, IsBad};
 ghost use Rattle.script_text.specs.Within.{IsSettled, IsWithin};
 ghost use Rattle.script_text.specs.Left.{lines_left, left};
 
 use crate::draft::Draft;
 use crate::lines::item_of;
-use crate::script::{Command, Script};
+use crate::script::Script;
 use crate::words::cut;
-use page_ids::PageId;
 use std::alloc::{AllocError, Global};
 
 /// Why bytes are no script.
@@ -66,44 +65,6 @@ fn read_lines(alloc: Global, bytes: &[u8]) -> Result<Draft, ScriptErr>
     Ok(draft)
 }
 
-/// Whether a fix among these commands names the page.
-fn is_fixed(page: PageId, commands: &[Command]) -> bool
-    ensures { result ≡ is_fixed page commands.now }
-{
-    for command in commands {
-        if let Command::Fix { page: fixed, .. } = command {
-            if *fixed == page {
-                return true;
-            }
-        }
-    }
-    false
-}
-
-/// 1 where the command is a fix of a page that no later one names, else 0.
-fn adds(command: &Command, later: &[Command]) -> usize
-    ensures names { pages_named (command.now ∷ later.now) ≡ result + pages_named later.now }
-    ensures few { result ≤ 1 }
-{
-    match command {
-        Command::Fix { page, .. } => { if is_fixed(*page, later) { 0 } else { 1 } }
-        Command::Read { .. } => 0,
-        Command::Put { .. } => 0,
-        Command::Unfix { .. } => 0,
-    }
-}
-
-/// How many distinct pages the fixes name.
-fn pages_named(commands: &[Command]) -> usize
-    ensures { result ≡ pages_named commands.now }
-{
-    let mut count = 0;
-    for (i, command) in commands.iter().enumerate() {
-        count += adds(command, &commands[i + 1..]);
-    }
-    count
-}
-
 /// Whether the whole has a fault.
 fn is_faulty(script: &Script) -> bool
     requires settled { IsSettled script.now.config }
@@ -113,11 +74,7 @@ fn is_faulty(script: &Script) -> bool
     let frames = u64::from(config.frames) * u64::from(config.max);
     let bytes = u64::from(config.page.bytes()) * frames * u64::from(config.instances);
     let chunks = config.chunks();
-    frames > 16384
-        || bytes > 2147483648
-        || chunks > u64::from(config.max)
-        || chunks > 1
-        || pages_named(script.commands()) > config.frames as usize
+    frames > 16384 || bytes > 2147483648 || chunks > u64::from(config.max) || chunks > 1
 }
 
 /// Reads a script. As bytes have one verdict only, what `read_script` says follows from these clauses.
@@ -138,10 +95,9 @@ fn read_whole(alloc: Global, bytes: &[u8]) -> Result<Script, ScriptErr>
 
 /// What the bytes of a script ask for, or the first line that isn't in the grammar.
 ///
-/// A script has at most 1048576 bytes and 64 commands of one thread.
+/// A script has at most 1048576 bytes, and one thread whose commands make at most 65536 calls.
 /// What is asked of the whole is looked at where every line is in the grammar: at most 16384 frames in an instance, 2^31 bytes in all
-/// possible frames, no more chunks at the start than there may be, and for now one chunk alone and no more distinct pages named by
-/// fixes than there are frames.
+/// possible frames, no more chunks at the start than there may be, and for now one chunk alone.
 pub fn read_script(alloc: Global, bytes: &[u8]) -> Result<Script, ScriptErr>
     ensures read { IfOk result (λ script. IsScript bytes.now script) }
     ensures within { IfOk result (λ script. IsWithin script) }

@@ -35,7 +35,7 @@ fn repeated(alloc: Global, text: &[u8], line: &[u8], times: u32) -> Result<Vec<u
 
 #[test]
 fn lines_that_are_in_the_grammar(rt: HostRuntime) -> Result<(), Fail> {
-    let texts: [&[u8]; 38] = [
+    let texts: [&[u8]; 40] = [
         b"",
         b"\n",
         b"\n\n",
@@ -59,6 +59,8 @@ fn lines_that_are_in_the_grammar(rt: HostRuntime) -> Result<(), Fail> {
         b"page 8192\nsize 1\nthread 1\nread 0:0 8183 1",
         b"page 4096\nsize 1\nthread 1\nread 0:0 4087 1",
         b"frames 2\nsize 1\nthread 1\nfix 0:0 1\nfix 1:0 1\nfix 0:0 2\nunfix 9:9\nread 8:8 38 1",
+        b"frames 2\nsize 1\nthread 1\nfix 0:0 1\nfix 1:0 1\nfix 0:1 1",
+        b"frames 1\nsize 1\nthread 1\nfix 0:0 1\nfix 4294967295:4294967295 1\nfix 0:0 1",
         b"thread 1\nunfix 4294967295:4294967295",
         b"thread 1\nput 4294967295:4294967295 38 0123456789abcdef",
         b"frames 1\nsize 1\nthread 1\nput 0:0 38 ab\nfix 0:2 1\nput 0:1 38 ab",
@@ -318,7 +320,7 @@ fn what_a_put_asks_for(rt: HostRuntime) -> Result<(), Fail> {
 
 #[test]
 fn order_and_the_whole(rt: HostRuntime) -> Result<(), Fail> {
-    let rows: [(&[u8], u32); 33] = [
+    let rows: [(&[u8], u32); 32] = [
         (b"max 2\nmax 2", 2),
         (b"lsn 8192\nmax 2\nlsn 8193", 3),
         (b"lsn 8192\nlsn 8192", 2),
@@ -351,10 +353,6 @@ fn order_and_the_whole(rt: HostRuntime) -> Result<(), Fail> {
         (b"size 2147483648", 0),
         (b"page 4096\nframes 2\nsize 16384\nmax 2", 0),
         (
-            b"frames 2\nsize 1\nthread 1\nfix 0:0 1\nfix 1:0 1\nfix 0:1 1",
-            0,
-        ),
-        (
             b"frames 2\nsize 1\nthread 1\nfix 0:0 1\nfix 1:0 1\nfix 0:1 1\n.",
             7,
         ),
@@ -366,14 +364,48 @@ fn order_and_the_whole(rt: HostRuntime) -> Result<(), Fail> {
 }
 
 #[test]
+fn as_many_calls_as_there_may_be(rt: HostRuntime) -> Result<(), Fail> {
+    let alloc = rt.alloc();
+    let four = b"fix 0:0 1\nread 0:0 38 1\n#\nput 0:0 38 ab\n\nunfix 0:0\n";
+    let text = repeated(alloc, b"thread 1\n", four, 16384)?;
+    let script = read_script(alloc, text.as_slice())?;
+    assert_eq!(rt; script.commands().len(), 65536);
+    Ok(())
+}
+
+#[test]
+fn one_call_too_many(rt: HostRuntime) -> Result<(), Fail> {
+    let alloc = rt.alloc();
+    let full = repeated(alloc, b"max 16\nthread 1\n", b"unfix 0:0\n", 65536)?;
+    let rows: [(&[u8], u32); 3] = [
+        (b"# no call\n", 0),
+        (b"unfix 0:0\nunfix 0:0\nwhat\n", 65539),
+        (b"#\n\nput 0:0 38 ab", 65541),
+    ];
+    for (more, line) in rows {
+        let text = repeated(alloc, full.as_slice(), more, 1)?;
+        assert_eq!(rt; bad_line(alloc, text.as_slice())?, Some(line), "{more:?}");
+    }
+    Ok(())
+}
+
+#[test]
+fn more_pages_than_frames(rt: HostRuntime) -> Result<(), Fail> {
+    let alloc = rt.alloc();
+    let mut text = Vec::from_slice(alloc, b"frames 1\nsize 1\nthread 1\n")?;
+    for page in 0..8193u32 {
+        let line = format!(in alloc; "fix 0:{page} 1\n")?;
+        text.extend_from_slice(line.as_bytes())?;
+    }
+    let script = read_script(alloc, text.as_slice())?;
+    assert_eq!(rt; script.config().frames, 1);
+    assert_eq!(rt; script.commands().len(), 8193);
+    Ok(())
+}
+
+#[test]
 fn long_scripts(rt: HostRuntime) -> Result<(), Fail> {
     let alloc = rt.alloc();
-    let full = repeated(alloc, b"thread 1\n", b"unfix 0:0\n", 64)?;
-    assert_eq!(rt; bad_line(alloc, full.as_slice())?, None);
-    let more = repeated(alloc, full.as_slice(), b"#\n\nunfix 0:0\n", 1)?;
-    assert_eq!(rt; bad_line(alloc, more.as_slice())?, Some(68));
-    let puts = repeated(alloc, full.as_slice(), b"put 0:0 38 ab\n", 1)?;
-    assert_eq!(rt; bad_line(alloc, puts.as_slice())?, Some(66));
     let long_put = repeated(alloc, b"thread 1\nput 0:0 38 ", b"ab", 524000)?;
     assert_eq!(rt; bad_line(alloc, long_put.as_slice())?, Some(2));
     let longest = repeated(alloc, b"", b"# fifteen bytes\n", 65536)?;

@@ -20,3 +20,10 @@ pub mod Callers
 pub mod Kinds
 pub mod Cases
 pub mod Midpoints
+pub mod Victims
+pub mod Walks
+pub mod BadVictims
+pub mod DirtyVictims
+pub mod AllFixed
+pub mod Had
+pub mod Alone

@@ -1,5 +1,6 @@
 -- Why calls are refused. The state is that before the event.
-use Rattle.std.specs.Prelude.{ℕ, Bool, true, false, List, ◌≡◌, ◌≢◌, ◌≤◌, ◌<◌, ◌+◌, ◌^◌, length, Option, None, Some, IfSome, IsSomeAnd, is_none, nat_le, if◌then◌else◌}
+use Rattle.std.specs.Prelude.{ℕ, Bool, true, false, List, ◌≡◌, ◌≢◌, ◌==◌, ◌≤◌, ◌<◌, ◌+◌, ◌^◌, length, Option, None, Some, IfSome, IsSomeAnd, is_none, nat_le, if◌then◌else◌}
+use Rattle.std.specs.Option.{option_or}
 use Rattle.page_ids.specs.Faults.{Rose}
 use Rattle.page_ids.specs.declared.ids.PageId.{PageId}
 use Rattle.page_ids.specs.declared.layout.BadPage.{BadPage}
@@ -19,6 +20,7 @@ use Rattle.trail.specs.History.{disk_faults, log_faults}
 use Rattle.trail.specs.Dirt.{log_end}
 use Rattle.trail.specs.Calls.{held_by, newest_of, granted_call, noted_call}
 use Rattle.trail.specs.Opening.{Opening}
+use Rattle.trail.specs.Victim.{AreAllFixed}
 
 -- Some causes are exact: a call is refused with one exactly where it holds and none before it does. The others come only where they hold.
 abbrev pub is_exact : Cause → Bool
@@ -52,9 +54,13 @@ outside o p = if nat_le (o.pages p.space) p.page then Some (cause.NoSuchPage (o.
 abbrev pub not_held : List Event → ℕ → PageId → Option Cause
 not_held past c p = if is_none (newest_of (held_by past c) p) then Some cause.Unheld else None
 
--- The first exact cause that holds of a call of the caller; the calls that are not made so far have none.
+-- the caller has as many open fixes as a pass may have in an instance
+abbrev pub hold_full : List Event → ℕ → Option Cause
+hold_full past c = if length (held_by past c) == 64 then Some (cause.HoldFull 64) else None
+
+-- The first exact cause that holds of a call of the caller; the calls that are not made so far have none but a page outside its space.
 abbrev pub due : Opening → List Event → ℕ → Call → Option Cause
-due o past c (call.Fix p now) = outside o p
+due o past c (call.Fix p now) = option_or (outside o p) (hold_full past c)
 due o past c (call.Create p now) = outside o p
 due o past c (call.Put p at bytes) = not_held past c p
 due o past c (call.Read p at len) = not_held past c p
@@ -101,36 +107,36 @@ pub record IsLogSpent (past : List Event) (asked : Call) (end : ℕ) : Type 0 wh
   pub beyond : IsSomeAnd (record_bytes asked) (λ n. 2 ^ 63 < end + n)
 
 -- what is so where a cause that is not exact comes; a cause that no call has so far does not come
-abbrev pub Comes : List Event → Call → Cause → Type 0
-Comes past asked (cause.PlacesSpent mark need) = ⊥
-Comes past asked (cause.NoSuchPage pages) = ⊥
-Comes past asked (cause.HoldFull held) = ⊥
-Comes past asked (cause.Resident f) = ⊥
-Comes past asked (cause.AllFixed seen) = ⊥
-Comes past asked (cause.RedoFault before after) = Rose before after × (log_faults (entries past) ≤ before)
-Comes past asked (cause.DiskFault before after) = Rose before after × (disk_faults (entries past) ≤ before)
-Comes past asked (cause.BadPage bad) = IsSomeAnd (fixed_page asked) (λ p. IsOther p bad)
-Comes past asked (cause.LogSpent end) = IsLogSpent past asked end
-Comes past asked (cause.WatchFull watches) = ⊥
-Comes past asked cause.NoWatch = ⊥
-Comes past asked cause.TooSmall = ⊥
-Comes past asked (cause.TooLarge chunks max) = ⊥
-Comes past asked (cause.Withdrawing from) = ⊥
-Comes past asked (cause.Undone seen) = ⊥
-Comes past asked (cause.NoFrame frames) = ⊥
-Comes past asked (cause.Stale found) = ⊥
-Comes past asked (cause.OtherPage found) = ⊥
-Comes past asked (cause.Latched found) = ⊥
-Comes past asked (cause.Busy found) = ⊥
-Comes past asked cause.Unheld = ⊥
+abbrev pub Comes : Opening → List Event → Call → Cause → Type 0
+Comes o past asked (cause.PlacesSpent mark need) = ⊥
+Comes o past asked (cause.NoSuchPage pages) = ⊥
+Comes o past asked (cause.HoldFull held) = ⊥
+Comes o past asked (cause.Resident f) = ⊥
+Comes o past asked (cause.AllFixed seen) = IsSomeAnd (fixed_page asked) (λ p. AreAllFixed o.config (entries past) p seen)
+Comes o past asked (cause.RedoFault before after) = Rose before after × (log_faults (entries past) ≤ before)
+Comes o past asked (cause.DiskFault before after) = Rose before after × (disk_faults (entries past) ≤ before)
+Comes o past asked (cause.BadPage bad) = IsSomeAnd (fixed_page asked) (λ p. IsOther p bad)
+Comes o past asked (cause.LogSpent end) = IsLogSpent past asked end
+Comes o past asked (cause.WatchFull watches) = ⊥
+Comes o past asked cause.NoWatch = ⊥
+Comes o past asked cause.TooSmall = ⊥
+Comes o past asked (cause.TooLarge chunks max) = ⊥
+Comes o past asked (cause.Withdrawing from) = ⊥
+Comes o past asked (cause.Undone seen) = ⊥
+Comes o past asked (cause.NoFrame frames) = ⊥
+Comes o past asked (cause.Stale found) = ⊥
+Comes o past asked (cause.OtherPage found) = ⊥
+Comes o past asked (cause.Latched found) = ⊥
+Comes o past asked (cause.Busy found) = ⊥
+Comes o past asked cause.Unheld = ⊥
 
 -- A call is refused with the exact cause that is due; where none is due, with another one that comes.
-abbrev pub Answers : Bool → List Event → Option Cause → Call → Cause → Type 0
-Answers true past first asked why = first ≡ Some why
-Answers false past first asked why = (first ≡ None) × Comes past asked why
+abbrev pub Answers : Bool → Opening → List Event → Option Cause → Call → Cause → Type 0
+Answers true o past first asked why = first ≡ Some why
+Answers false o past first asked why = (first ≡ None) × Comes o past asked why
 
 abbrev pub IsRefused : Opening → List Event → ℕ → Call → Cause → Type 0
-IsRefused o past c asked why = Answers (is_exact why) past (due o past c asked) asked why
+IsRefused o past c asked why = Answers (is_exact why) o past (due o past c asked) asked why
 
 -- A call that is granted has no exact cause.
 abbrev pub IsGranted : Opening → List Event → ℕ → Option Call → Type 0

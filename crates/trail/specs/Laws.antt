@@ -11,6 +11,8 @@ use Rattle.trail.specs.Opening.{Opening}
 use Rattle.trail.specs.Legal.{IsLegal}
 use Rattle.trail.specs.Covered.{IsCovered}
 use Rattle.trail.specs.Causes.{IsCaused}
+use Rattle.trail.specs.Victim.{IsVictim}
+use Rattle.trail.specs.Alone.{AreExact, AreOnlyOf, closing_number}
 
 -- no caller has an open fix of the page
 abbrev pub IsUnfixed : List Event → PageId → Type 0
@@ -49,14 +51,16 @@ pub record IsLawful (o : Opening) (past : List Event) (e : Event) : Type 0 where
   pub still : IsStill past e
   pub covered : IsCovered past e
   pub causes : IsCaused o past e
+  pub victim : IsVictim o past e
 
 -- each event was lawful where it came, the newest first
 abbrev pub IsGood : Opening → List Event → Type 0
 IsGood o [] = ⊤
 IsGood o (e ∷ past) = IsLawful o past e × IsGood o past
 
--- a whole trail: each event is lawful, and each call has its answer
+-- A whole trail: each event is lawful, and each call has its answer. Where one caller made all calls but the closing flush, found words are exact.
 pub record IsLawfulTrail (o : Opening) (trail : Events) : Type 0 where
   pub first : trail.first ≡ o.first
   pub each : IsGood o (reverse trail.events)
   pub answered : (c : ℕ) → under_way (reverse trail.events) c ≡ []
+  pub alone : (c : ℕ) → AreOnlyOf c (closing_number (reverse trail.events)) (reverse trail.events) → AreExact c (reverse trail.events)

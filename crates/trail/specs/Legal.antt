@@ -1,10 +1,13 @@
 -- Which events are legal. Each is judged by what stands before it; the newest event stands first.
-use Rattle.std.specs.Prelude.{ℕ, List, [], ◌∷◌, ◌++◌, ◌≡◌, ◌+◌, ◌-◌, ◌<◌, ◌≤◌, ◌⊎◌, Option, None, Some, IsSome, IsSomeAnd, Contains, slice_range, length, map, drop, ⊤}
+use Rattle.std.specs.Prelude.{ℕ, false, List, [], ◌∷◌, ◌++◌, ◌≡◌, ◌+◌, ◌-◌, ◌<◌, ◌≤◌, ◌⊎◌, Option, None, Some, IsSome, IsSomeAnd, Contains, slice_range, length, map, drop, ⊤}
+use Rattle.page_ids.specs.Same.{same_page}
 use Rattle.page_ids.specs.Size.{page_bytes}
 use Rattle.page_ids.specs.declared.ids.PageId.{PageId}
 use Rattle.page_ids.specs.declared.frame_word.Word.{Word}
 use Rattle.trail.specs.declared.event.Call.{Call}
 use Rattle.trail.specs.declared.event.Call.TheVariants as call
+use Rattle.trail.specs.declared.event.Cause.{Cause}
+use Rattle.trail.specs.declared.event.Cause.TheVariants as cause
 use Rattle.trail.specs.declared.event.Dirty.{Dirty}
 use Rattle.trail.specs.declared.event.Kind.{Kind}
 use Rattle.trail.specs.declared.event.Kind.TheVariants as kind
@@ -58,45 +61,57 @@ abbrev pub AreWrites : List Kind → Type 0
 AreWrites [] = ⊤
 AreWrites (k ∷ made) = IsSome (written_page k) × AreWrites made
 
--- the entries that a refused call may have: a clean keeps its writes, every other call has none so far
-abbrev pub MayPrecedeRefusal : List Kind → Call → Type 0
-MayPrecedeRefusal made (call.Fix p now) = made ≡ []
-MayPrecedeRefusal made (call.Create p now) = made ≡ []
-MayPrecedeRefusal made (call.Put p at bytes) = made ≡ []
-MayPrecedeRefusal made (call.Read p at len) = made ≡ []
-MayPrecedeRefusal made (call.Unfix p) = made ≡ []
-MayPrecedeRefusal made (call.Guess p f clock) = made ≡ []
-MayPrecedeRefusal made (call.Watch p) = made ≡ []
-MayPrecedeRefusal made (call.Occurred p) = made ≡ []
-MayPrecedeRefusal made (call.Unwatch p) = made ≡ []
-MayPrecedeRefusal made (call.Clean bound) = AreWrites made
-MayPrecedeRefusal made call.Check = made ≡ []
-MayPrecedeRefusal made (call.Dump pct) = made ≡ []
-MayPrecedeRefusal made (call.Resize bytes rounds) = made ≡ []
+-- the entries by which a frame was had for a page: none where one was free, else the evict of another page, behind its write where it was dirty
+abbrev pub IsHad : PageId → List Kind → Type 0
+IsHad p [] = ⊤
+IsHad p (kind.Evict q f passed ∷ made) = (same_page q p ≡ false) × ((made ≡ []) ⊎ ((lsn : ℕ) × (upto : ℕ) × (made ≡ kind.Write q lsn upto ∷ [])))
+IsHad p (k ∷ made) = ⊥
 
--- Which entries a call may have before this one, the newest first. An answer is judged; what stands before answers is judged with them.
--- A fix may have read its page in, and a clean may have written pages; every other answer comes alone so far.
-abbrev pub MayPrecede : List Kind → Kind → Type 0
-MayPrecede made (kind.Load p f) = ⊤
-MayPrecede made (kind.Fix p f clock now) = (made ≡ []) ⊎ (made ≡ kind.Load p f ∷ [])
-MayPrecede made (kind.Create p f start end now) = made ≡ []
-MayPrecede made (kind.Put p at bytes start end) = made ≡ []
-MayPrecede made (kind.Evict p f passed) = ⊤
-MayPrecede made (kind.Write p lsn upto) = ⊤
-MayPrecede made (kind.Move p from to) = ⊤
-MayPrecede made (kind.Withdraw from) = ⊤
-MayPrecede made (kind.Undo from) = ⊤
-MayPrecede made (kind.Shrink chunks) = ⊤
-MayPrecede made (kind.Grow chunks) = ⊤
-MayPrecede made (kind.Resize bytes chunks) = made ≡ []
-MayPrecede made (kind.Clean written skipped) = AreWrites made
-MayPrecede made (kind.Check lsn) = made ≡ []
-MayPrecede made (kind.WatchSet p) = made ≡ []
-MayPrecede made (kind.WatchAt p f) = made ≡ []
-MayPrecede made (kind.Occurred p arrived) = made ≡ []
-MayPrecede made (kind.Unwatch p) = made ≡ []
-MayPrecede made (kind.Dump pct ids) = made ≡ []
-MayPrecede made (kind.Refused asked why) = MayPrecedeRefusal made asked
+-- the entries that a fix may have that was refused so: none, or a frame was had for a page that has no home and could not be read in
+abbrev pub MayPrecedeUnfixed : List Entry → List Kind → PageId → Cause → Type 0
+MayPrecedeUnfixed h made p (cause.DiskFault before after) = (made ≡ []) ⊎ ((home h p ≡ None) × IsHad p made)
+MayPrecedeUnfixed h made p (cause.BadPage bad) = (made ≡ []) ⊎ ((home h p ≡ None) × IsHad p made)
+MayPrecedeUnfixed h made p why = made ≡ []
+
+-- the entries that a refused call may have: a fix those by which it had a frame, a clean its writes, every other call has none so far
+abbrev pub MayPrecedeRefusal : List Entry → List Kind → Call → Cause → Type 0
+MayPrecedeRefusal h made (call.Fix p now) why = MayPrecedeUnfixed h made p why
+MayPrecedeRefusal h made (call.Create p now) why = made ≡ []
+MayPrecedeRefusal h made (call.Put p at bytes) why = made ≡ []
+MayPrecedeRefusal h made (call.Read p at len) why = made ≡ []
+MayPrecedeRefusal h made (call.Unfix p) why = made ≡ []
+MayPrecedeRefusal h made (call.Guess p f clock) why = made ≡ []
+MayPrecedeRefusal h made (call.Watch p) why = made ≡ []
+MayPrecedeRefusal h made (call.Occurred p) why = made ≡ []
+MayPrecedeRefusal h made (call.Unwatch p) why = made ≡ []
+MayPrecedeRefusal h made (call.Clean bound) why = AreWrites made
+MayPrecedeRefusal h made call.Check why = made ≡ []
+MayPrecedeRefusal h made (call.Dump pct) why = made ≡ []
+MayPrecedeRefusal h made (call.Resize bytes rounds) why = made ≡ []
+
+-- Which entries a call may have before this one at this history, the newest first. An answer is judged; what stands before answers is judged with them.
+-- A fix may have had a frame and read its page into it, and a clean may have written pages; every other answer comes alone so far.
+abbrev pub MayPrecede : List Entry → List Kind → Kind → Type 0
+MayPrecede h made (kind.Load p f) = ⊤
+MayPrecede h made (kind.Fix p f clock now) = (made ≡ []) ⊎ ((had : List Kind) × (made ≡ kind.Load p f ∷ had) × IsHad p had)
+MayPrecede h made (kind.Create p f start end now) = made ≡ []
+MayPrecede h made (kind.Put p at bytes start end) = made ≡ []
+MayPrecede h made (kind.Evict p f passed) = ⊤
+MayPrecede h made (kind.Write p lsn upto) = ⊤
+MayPrecede h made (kind.Move p from to) = ⊤
+MayPrecede h made (kind.Withdraw from) = ⊤
+MayPrecede h made (kind.Undo from) = ⊤
+MayPrecede h made (kind.Shrink chunks) = ⊤
+MayPrecede h made (kind.Grow chunks) = ⊤
+MayPrecede h made (kind.Resize bytes chunks) = made ≡ []
+MayPrecede h made (kind.Clean written skipped) = AreWrites made
+MayPrecede h made (kind.Check lsn) = made ≡ []
+MayPrecede h made (kind.WatchSet p) = made ≡ []
+MayPrecede h made (kind.WatchAt p f) = made ≡ []
+MayPrecede h made (kind.Occurred p arrived) = made ≡ []
+MayPrecede h made (kind.Unwatch p) = made ≡ []
+MayPrecede h made (kind.Dump pct ids) = made ≡ []
+MayPrecede h made (kind.Refused asked why) = MayPrecedeRefusal h made asked why
 
 -- a page that has no home and has a value is read into the next frame
 pub record IsLoad (o : Opening) (past : List Event) (p : PageId) (f : ℕ) : Type 0 where
@@ -142,13 +157,13 @@ pub record IsClean (past : List Event) (c written : ℕ) (skipped : List (ℕ ×
   pub count : written ≡ length (under_way past c)
   pub none_skipped : skipped ≡ []
 
--- Entries of a kind that no call makes so far are not legal. What a write needs stands beside (`IsCovered`).
+-- Entries of a kind that no call makes so far are not legal. What a write and an evict need stands beside (`IsCovered`, `IsVictim`).
 abbrev pub IsLegalKind : Opening → List Event → ℕ → Kind → Type 0
 IsLegalKind o past c (kind.Load p f) = IsLoad o past p f
 IsLegalKind o past c (kind.Fix p f clock now) = IsFix past p f clock
 IsLegalKind o past c (kind.Create p f start end now) = ⊥
 IsLegalKind o past c (kind.Put p at bytes start end) = IsPut o past c p at bytes start end
-IsLegalKind o past c (kind.Evict p f passed) = ⊥
+IsLegalKind o past c (kind.Evict p f passed) = ⊤
 IsLegalKind o past c (kind.Write p lsn upto) = ⊤
 IsLegalKind o past c (kind.Move p from to) = ⊥
 IsLegalKind o past c (kind.Withdraw from) = ⊥
@@ -187,7 +202,7 @@ pub record IsLegalEntry (o : Opening) (past : List Event) (e : Entry) : Type 0 w
   pub place : e.place ≡ mark o.first (entries past) + 1
   pub number : e.number ≡ next_number past e.caller
   pub together : IsTogether past e.caller
-  pub before : MayPrecede (under_way past e.caller) e.kind
+  pub before : MayPrecede (entries past) (under_way past e.caller) e.kind
   pub kind : IsLegalKind o past e.caller e.kind
 
 pub record IsLegalReceipt (o : Opening) (past : List Event) (r : Receipt) : Type 0 where

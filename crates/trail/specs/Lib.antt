@@ -10,6 +10,8 @@ pub mod Opening
 pub mod Legal
 pub mod Covered
 pub mod Causes
+pub mod Victim
+pub mod Alone
 pub mod Laws
 pub mod Promises
 pub mod Merging

@@ -1,5 +1,6 @@
--- What the calls promise of refusals beside the laws.
+-- What the calls promise beside the laws: of refusals, and of lists of frames.
 use Rattle.std.specs.Prelude.{ℕ, Bool, true, false, List, [], ◌∷◌, ◌≡◌, None, IsSome, IsTrue, ⊤}
+use Rattle.page_ids.specs.FrameWord.{AreRising}
 use Rattle.trail.specs.declared.event.Call.{Call}
 use Rattle.trail.specs.declared.event.Call.TheVariants as call
 use Rattle.trail.specs.declared.event.Cause.{Cause}
@@ -14,6 +15,7 @@ use Rattle.trail.specs.Places.{entries}
 use Rattle.trail.specs.History.{home}
 use Rattle.trail.specs.Opening.{Opening, OnValue}
 use Rattle.trail.specs.Causes.{due}
+use Rattle.trail.specs.Alone.{cause_words}
 
 -- every frame was seen with a fix, or a device failed
 abbrev pub is_excuse : Cause → Bool
@@ -25,6 +27,9 @@ is_excuse _ = false
 -- the causes that a call may have, as far as calls are made
 abbrev pub is_own : Call → Cause → Bool
 is_own (call.Fix p now) (cause.NoSuchPage pages) = true
+is_own (call.Fix p now) (cause.HoldFull held) = true
+is_own (call.Fix p now) (cause.AllFixed seen) = true
+is_own (call.Fix p now) (cause.RedoFault before after) = true
 is_own (call.Fix p now) (cause.DiskFault before after) = true
 is_own (call.Fix p now) (cause.BadPage bad) = true
 is_own (call.Put p at bytes) (cause.LogSpent end) = true
@@ -35,7 +40,7 @@ is_own (call.Clean bound) (cause.RedoFault before after) = true
 is_own (call.Clean bound) (cause.DiskFault before after) = true
 is_own _ _ = false
 
--- A fix of which no exact cause holds is refused only where its page has no home, and with such a cause only where the page has a value.
+-- A fix of which no exact cause holds is refused only where its page has no home; where the page has a value, only with an excuse.
 abbrev pub IsExcused : Opening → List Event → ℕ → Call → Cause → Type 0
 IsExcused o past c (call.Fix p now) why = due o past c (call.Fix p now) ≡ None → (home (entries past) p ≡ None) × OnValue o past p (λ v. IsSome v → IsTrue (is_excuse why))
 IsExcused o past c _ why = ⊤
@@ -50,9 +55,12 @@ pub record IsFairRefusal (noted : Bool) (o : Opening) (past : List Event) (c : �
   pub own : IsTrue (is_own asked why)
   pub filed : is_noted why ≡ noted
   pub excused : IsExcused o past c asked why
+  pub rising : AreRising (cause_words why)
 
+-- frames that a list tells rise, each told once
 abbrev pub IsPromisedKind : Opening → List Event → ℕ → Kind → Type 0
 IsPromisedKind o past c (kind.Refused asked why) = IsFairRefusal false o past c asked why
+IsPromisedKind o past c (kind.Evict p f passed) = AreRising passed
 IsPromisedKind o past c _ = ⊤
 
 abbrev pub IsPromisedNote : Opening → List Event → ℕ → Note → Type 0

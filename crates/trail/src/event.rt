@@ -152,7 +152,7 @@ pub enum Kind {
         frame: u32,
         passed: Words,
     },
-    /// The page's image was written, when the log was durable up to `upto`.
+    /// The page's image, whose last change ends at `lsn`, was written when the log was durable up to `upto`.
     Write {
         page: PageId,
         lsn: u64,

@@ -70,6 +70,7 @@ load_then_lawful c = record {
   still = tt;
   covered = tt;
   causes = tt;
+  victim = tt;
 }
 
 -- and then the change is not

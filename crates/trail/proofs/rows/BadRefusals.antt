@@ -24,6 +24,7 @@ longer_spent c = record {
   still = tt;
   covered = tt;
   causes = (refl, record { behind = omega arith; beyond = omega arith });
+  victim = tt;
 }
 
 -- a blank page's record fits
@@ -42,6 +43,7 @@ put_last_lawful c = record {
   still = tt;
   covered = tt;
   causes = refl;
+  victim = tt;
 }
 
 -- and then the log doesn't end before it
@@ -55,6 +57,7 @@ spent_at_the_end c = record {
   still = tt;
   covered = tt;
   causes = (refl, record { behind = omega arith; beyond = omega arith });
+  victim = tt;
 }
 
 -- a fix, which logs nothing, is refused with a log that is spent
@@ -93,6 +96,7 @@ log_fault_next c = record {
   still = tt;
   covered = tt;
   causes = (refl, (omega arith, omega arith));
+  victim = tt;
 }
 
 -- a fault in which the count didn't rise
@@ -110,6 +114,7 @@ log_fault_at_the_end c = record {
   still = tt;
   covered = tt;
   causes = (refl, (omega arith, omega arith));
+  victim = tt;
 }
 
 -- a fix of a page outside its space is refused with a fault of the log
@@ -121,10 +126,6 @@ log_fault_outside c h = one_due (cause.NoSuchPage 64) h.causes.0
 -- a fix with a log that is spent
 pub spent_of_fix : (c : Content) → IsPromised (opening (pages_of c)) fixed (entry 3 1 2 (kind.Refused (call.Fix (page 1) 1) (cause.LogSpent (2 ^ 63)))) → ⊥
 spent_of_fix c h = apart_too h.own
-
--- or with a fault of the log
-pub log_fault_of_fix : (c : Content) → IsPromised (opening (pages_of c)) fixed (entry 3 1 2 (kind.Refused (call.Fix (page 1) 1) (cause.RedoFault 0 1))) → ⊥
-log_fault_of_fix c h = apart_too h.own
 
 -- a put with a fault of the log, which is buffered
 pub log_fault_of_put : (c : Content) → IsPromised (opening (pages_of c)) fixed (entry 3 1 2 (kind.Refused (call.Put (page 0) 38 (1 ∷ [])) (cause.RedoFault 0 1))) → ⊥

@@ -8,8 +8,10 @@ use Rattle.trail.specs.declared.event.Kind.TheVariants as kind
 use Rattle.trail.specs.declared.event.Call.TheVariants as call
 use Rattle.trail.specs.declared.event.Cause.TheVariants as cause
 use Rattle.trail.specs.declared.event.Event.{Event}
+use Rattle.trail.specs.Places.{entries}
+use Rattle.trail.specs.Legal.{MayPrecede}
 use Rattle.trail.specs.Laws.{IsLawful}
-use Rattle.trail.proofs.rows.Shared.{page, pages_of, opening, entry}
+use Rattle.trail.proofs.rows.Shared.{page, pages_of, opening, entry, frame_behind}
 use Rattle.trail.proofs.rows.Lawful.{unfixed}
 use Rattle.trail.proofs.rows.Writes.{oldest, newest, one_put, both_put, both_back, one_written, both_written}
 
@@ -61,6 +63,7 @@ write_newest_lawful c = record {
   still = tt;
   covered = record { dirt = newest; is_dirty = refl; newest = refl; logged = omega arith };
   causes = tt;
+  victim = tt;
 }
 
 -- pages in another order
@@ -83,6 +86,7 @@ write_turned_lawful c = record {
   still = tt;
   covered = record { dirt = oldest; is_dirty = refl; newest = refl; logged = omega arith };
   causes = tt;
+  victim = tt;
 }
 
 -- and then the clean is not
@@ -121,6 +125,7 @@ read_within_lawful c = record {
   still = tt;
   covered = tt;
   causes = tt;
+  victim = tt;
 }
 
 -- and then the clean is not
@@ -153,13 +158,13 @@ written_by_fix = entry 8 1 8 (kind.Write (page 0) 8280 8302) ∷ both_back
 pub fix_behind_write : (c : Content) → IsLawful (opening (pages_of c)) written_by_fix (entry 9 1 8 (kind.Fix (page 0) 0 7 1)) → ⊥
 fix_behind_write c h = neither h.legal.before
   where
-    neither : (kind.Write (page 0) 8280 8302 ∷ [] ≡ []) ⊎ (kind.Write (page 0) 8280 8302 ∷ [] ≡ kind.Load (page 0) 0 ∷ []) → ⊥
+    neither : MayPrecede (entries written_by_fix) (kind.Write (page 0) 8280 8302 ∷ []) (kind.Fix (page 0) 0 7 1) → ⊥
     neither (inl e) = absurd (cc)
-    neither (inr e) = absurd (cc)
+    neither (inr e) = absurd (let same = e.1 in cc)
 
 -- nor is its refusal
 pub refused_fix_behind_write : (c : Content) → IsLawful (opening (pages_of c)) written_by_fix (entry 9 1 8 (kind.Refused (call.Fix (page 2) 1) (cause.DiskFault 0 1))) → ⊥
-refused_fix_behind_write c h = let none : kind.Write (page 0) 8280 8302 ∷ [] ≡ [] = h.legal.before in absurd (cc)
+refused_fix_behind_write c h = (frame_behind written_by_fix (page 2) (kind.Write (page 0) 8280 8302) [] h.legal.before).1
 
 -- a put is refused behind a write of its call
 pub refused_put_behind_write : (c : Content) → IsLawful (opening (pages_of c)) (entry 8 1 6 (kind.Write (page 0) 8280 8302) ∷ both_put) (entry 9 1 6 (kind.Refused (call.Put (page 0) 38 (1 ∷ [])) (cause.LogSpent 9223372036854775807))) → ⊥

@@ -28,6 +28,7 @@ both_good c = record {
       still = tt;
       covered = tt;
       causes = refl;
+      victim = tt;
     },
     (
       record {
@@ -35,6 +36,7 @@ both_good c = record {
         still = tt;
         covered = tt;
         causes = refl;
+        victim = tt;
       },
       (
         record {
@@ -42,6 +44,7 @@ both_good c = record {
           still = tt;
           covered = tt;
           causes = refl;
+          victim = tt;
         },
         (
           record {
@@ -49,6 +52,7 @@ both_good c = record {
             still = tt;
             covered = tt;
             causes = refl;
+            victim = tt;
           },
           (fix_lawful c, (load_lawful c, tt)),
         ),
@@ -56,6 +60,7 @@ both_good c = record {
     ),
   );
   answered = λ caller. grind (arith, nat_tests);
+  alone = λ caller only. (tt, (tt, (tt, (tt, (tt, (tt, tt))))));
 }
 
 -- the page stays while one of them has it

@@ -1,7 +1,8 @@
 -- What the laws leave out, case by case, and that each part of a trail is judged.
-use Rattle.std.proofs.Common.{refl, ◌≡◌, ℕ, List, [], ◌∷◌, inl, inr, true, false, arith}
+use Rattle.std.proofs.Common.{refl, ◌≡◌, ◌⊎◌, ℕ, List, [], ◌∷◌, inl, inr, true, false, arith, subst, sym, IsSome}
 use Rattle.std.specs.List.{AllByRecursion}
 use Rattle.page_ids.specs.Content.{Content}
+use Rattle.page_ids.specs.declared.config.Config.{Config}
 use Rattle.page_ids.specs.declared.ids.PageId.{PageId}
 use Rattle.page_ids.specs.declared.frame_word.Word.{Word}
 use Rattle.trail.specs.declared.event.Call.{Call}
@@ -14,9 +15,10 @@ use Rattle.trail.specs.declared.event.Note.TheVariants as note
 use Rattle.trail.specs.declared.event.Entry.{Entry}
 use Rattle.trail.specs.declared.event.Event.{Event}
 use Rattle.trail.specs.Opening.{Opening}
-use Rattle.trail.specs.Legal.{IsLast, IsInOrder, MayPrecede, AreWrites, IsLegalKind, IsLegalNote}
+use Rattle.trail.specs.Legal.{IsLast, IsInOrder, MayPrecede, IsHad, AreWrites, written_page, IsLegalKind, IsLegalNote}
 use Rattle.trail.specs.Covered.{IsCoveredKind}
 use Rattle.trail.specs.Causes.{Comes}
+use Rattle.trail.specs.Victim.{IsVictimKind}
 use Rattle.trail.specs.Laws.{IsLawful, IsGood, IsLawfulTrail, IsStillKind}
 use Rattle.trail.specs.Promises.{ArePromised}
 use Rattle.trail.proofs.rows.Shared.{page, pages_of, opening, untold, entry, receipt, trail, fix_there}
@@ -43,20 +45,61 @@ lone_answers p f m n bytes =
     ∷ []
 
 -- no entry comes before such an answer
-pub answers_alone : (p : PageId) (f m n : ℕ) (bytes : List ℕ) (k : Kind) (made : List Kind) → AllByRecursion (λ answer. MayPrecede (k ∷ made) answer → ⊥) (lone_answers p f m n bytes)
-answers_alone p f m n bytes k made =
+pub answers_alone : (h : List Entry) (p : PageId) (f m n : ℕ) (bytes : List ℕ) (k : Kind) (made : List Kind) → AllByRecursion (λ answer. MayPrecede h (k ∷ made) answer → ⊥) (lone_answers p f m n bytes)
+answers_alone h p f m n bytes k made =
     let no_entry = nonempty k made in (no_entry, (no_entry, (no_entry, (no_entry, (no_entry, (no_entry, (no_entry, (no_entry, (no_entry, tt)))))))))
 
--- two entries don't come before a fix, whatever they are
-pub fix_behind_two : (p : PageId) (f clock now : ℕ) (k m : Kind) (made : List Kind) → MayPrecede (k ∷ m ∷ made) (kind.Fix p f clock now) → ⊥
-fix_behind_two p f clock now k m made (inl none) = absurd (cc)
-fix_behind_two p f clock now k m made (inr one) = absurd (cc)
+-- the entry before a fix, where there is one, is the load of its page into the frame, and those before that are such by which a frame is had
+pub fix_behind : (h : List Entry) (p : PageId) (f clock now : ℕ) (k : Kind) (made : List Kind) → MayPrecede h (k ∷ made) (kind.Fix p f clock now) → (k ≡ kind.Load p f) × IsHad p made
+fix_behind h p f clock now k made (inl none) = absurd (cc)
+fix_behind h p f clock now k made (inr one) = let same = one.1 in let rest : one.0 ≡ made = cc in (cc, subst (IsHad p) rest one.2)
 
--- every call but a clean
+-- the entries that are no evicts
+abbrev no_evicts : PageId → ℕ → ℕ → ℕ → List ℕ → Call → Cause → List Kind
+no_evicts p f m n bytes asked why =
+    kind.Load p f
+    ∷ kind.Fix p f m n
+    ∷ kind.Create p f m n 5
+    ∷ kind.Put p f bytes m n
+    ∷ kind.Write p m n
+    ∷ kind.Move p f n
+    ∷ kind.Withdraw n
+    ∷ kind.Undo n
+    ∷ kind.Shrink n
+    ∷ kind.Grow n
+    ∷ kind.Resize m n
+    ∷ kind.Clean n []
+    ∷ kind.Check m
+    ∷ kind.WatchSet p
+    ∷ kind.WatchAt p f
+    ∷ kind.Occurred p true
+    ∷ kind.Unwatch p
+    ∷ kind.Dump n []
+    ∷ kind.Refused asked why
+    ∷ []
+
+-- by none of them a frame is had
+pub had_by_evicts : (p q : PageId) (f m n : ℕ) (bytes : List ℕ) (asked : Call) (why : Cause) (made : List Kind) → AllByRecursion (λ k. IsHad p (k ∷ made) → ⊥) (no_evicts q f m n bytes asked why)
+had_by_evicts p q f m n bytes asked why made =
+    let never : ⊥ → ⊥ = λ h. h in
+    (never, (never, (never, (never, (never, (never, (never, (never, (never, (never, (never, (never, (never, (never, (never, (never, (never, (never, (never, tt)))))))))))))))))))
+
+-- nor do they ask for a victim
+pub victims_alone : (config : Config) (h : List Entry) (c number : ℕ) (p : PageId) (f m n : ℕ) (bytes : List ℕ) (asked : Call) (why : Cause) → AllByRecursion (IsVictimKind config h c number) (no_evicts p f m n bytes asked why)
+victims_alone config h c number p f m n bytes asked why = (tt, (tt, (tt, (tt, (tt, (tt, (tt, (tt, (tt, (tt, (tt, (tt, (tt, (tt, (tt, (tt, (tt, (tt, (tt, tt)))))))))))))))))))
+
+-- before the evict comes a write alone
+pub had_behind_write : (p q : PageId) (f : ℕ) (passed : List (ℕ × Word)) (k : Kind) (made : List Kind) → IsHad p (kind.Evict q f passed ∷ k ∷ made) → IsSome (written_page k) × (made ≡ [])
+had_behind_write p q f passed k made had = by_case had.1
+  where
+    by_case : (k ∷ made ≡ []) ⊎ ((lsn : ℕ) × (upto : ℕ) × (k ∷ made ≡ kind.Write q lsn upto ∷ [])) → IsSome (written_page k) × (made ≡ [])
+    by_case (inl none) = absurd (cc)
+    by_case (inr one) = let same = one.2 in let write : k ≡ kind.Write q one.0 one.1 = cc in (subst (λ k. IsSome (written_page k)) (sym write) refl, cc)
+
+-- every call but a clean and a fix
 abbrev other_calls : PageId → ℕ → ℕ → List ℕ → List Call
 other_calls p m n bytes =
-    call.Fix p n
-    ∷ call.Create p n
+    call.Create p n
     ∷ call.Put p m bytes
     ∷ call.Read p m n
     ∷ call.Unfix p
@@ -70,10 +113,40 @@ other_calls p m n bytes =
     ∷ []
 
 -- no entry comes before its refusal
-pub refusals_alone : (p : PageId) (m n : ℕ) (bytes : List ℕ) (why : Cause) (k : Kind) (made : List Kind) → AllByRecursion (λ asked. MayPrecede (k ∷ made) (kind.Refused asked why) → ⊥) (other_calls p m n bytes)
-refusals_alone p m n bytes why k made =
+pub refusals_alone : (h : List Entry) (p : PageId) (m n : ℕ) (bytes : List ℕ) (why : Cause) (k : Kind) (made : List Kind) → AllByRecursion (λ asked. MayPrecede h (k ∷ made) (kind.Refused asked why) → ⊥) (other_calls p m n bytes)
+refusals_alone h p m n bytes why k made =
     let no_entry = nonempty k made in
-    (no_entry, (no_entry, (no_entry, (no_entry, (no_entry, (no_entry, (no_entry, (no_entry, (no_entry, (no_entry, (no_entry, (no_entry, tt))))))))))))
+    (no_entry, (no_entry, (no_entry, (no_entry, (no_entry, (no_entry, (no_entry, (no_entry, (no_entry, (no_entry, (no_entry, tt)))))))))))
+
+-- the causes of which none comes behind a frame
+abbrev early_causes : PageId → ℕ → ℕ → Word → List Cause
+early_causes p m n w =
+    cause.PlacesSpent m n
+    ∷ cause.NoSuchPage n
+    ∷ cause.HoldFull n
+    ∷ cause.Resident n
+    ∷ cause.AllFixed []
+    ∷ cause.RedoFault m n
+    ∷ cause.LogSpent n
+    ∷ cause.WatchFull n
+    ∷ cause.NoWatch
+    ∷ cause.TooSmall
+    ∷ cause.TooLarge m n
+    ∷ cause.Withdrawing n
+    ∷ cause.Undone []
+    ∷ cause.NoFrame n
+    ∷ cause.Stale w
+    ∷ cause.OtherPage p
+    ∷ cause.Latched w
+    ∷ cause.Busy w
+    ∷ cause.Unheld
+    ∷ []
+
+-- no entry comes before the refusal of a fix with one of them
+pub refused_fixes_alone : (h : List Entry) (p : PageId) (m n : ℕ) (w : Word) (k : Kind) (made : List Kind) → AllByRecursion (λ why. MayPrecede h (k ∷ made) (kind.Refused (call.Fix p n) why) → ⊥) (early_causes p m n w)
+refused_fixes_alone h p m n w k made =
+    let no_entry = nonempty k made in
+    (no_entry, (no_entry, (no_entry, (no_entry, (no_entry, (no_entry, (no_entry, (no_entry, (no_entry, (no_entry, (no_entry, (no_entry, (no_entry, (no_entry, (no_entry, (no_entry, (no_entry, (no_entry, (no_entry, tt)))))))))))))))))))
 
 -- the entries that are no writes
 abbrev no_writes : PageId → ℕ → ℕ → ℕ → List ℕ → Call → Cause → List Kind
@@ -114,7 +187,6 @@ covered_alone h p f m n bytes asked why = (tt, (tt, (tt, (tt, (tt, (tt, (tt, (tt
 abbrev later_kinds : PageId → ℕ → ℕ → ℕ → List Kind
 later_kinds p f m n =
     kind.Create p f m n 5
-    ∷ kind.Evict p f []
     ∷ kind.Move p f n
     ∷ kind.Withdraw n
     ∷ kind.Undo n
@@ -132,7 +204,7 @@ later_kinds p f m n =
 -- none of them is legal
 pub no_later_kind : (o : Opening) (past : List Event) (c : ℕ) (p : PageId) (f m n : ℕ) → AllByRecursion (λ k. IsLegalKind o past c k → ⊥) (later_kinds p f m n)
 no_later_kind o past c p f m n =
-    let never : ⊥ → ⊥ = λ h. h in (never, (never, (never, (never, (never, (never, (never, (never, (never, (never, (never, (never, (never, (never, tt))))))))))))))
+    let never : ⊥ → ⊥ = λ h. h in (never, (never, (never, (never, (never, (never, (never, (never, (never, (never, (never, (never, (never, tt)))))))))))))
 
 -- a granted guess isn't either
 pub no_granted : (o : Opening) (past : List Event) (c : ℕ) (p : PageId) (f clock : ℕ) → IsLegalNote o past c (note.Granted p f clock) → ⊥
@@ -145,7 +217,6 @@ no_fault p m n w =
     ∷ cause.NoSuchPage n
     ∷ cause.HoldFull n
     ∷ cause.Resident n
-    ∷ cause.AllFixed []
     ∷ cause.WatchFull n
     ∷ cause.NoWatch
     ∷ cause.TooSmall
@@ -161,9 +232,14 @@ no_fault p m n w =
     ∷ []
 
 -- none of them comes where no exact cause is due
-pub no_other_comes : (past : List Event) (asked : Call) (p : PageId) (m n : ℕ) (w : Word) → AllByRecursion (λ why. Comes past asked why → ⊥) (no_fault p m n w)
-no_other_comes past asked p m n w =
-    let never : ⊥ → ⊥ = λ h. h in (never, (never, (never, (never, (never, (never, (never, (never, (never, (never, (never, (never, (never, (never, (never, (never, (never, tt)))))))))))))))))
+pub no_other_comes : (o : Opening) (past : List Event) (asked : Call) (p : PageId) (m n : ℕ) (w : Word) → AllByRecursion (λ why. Comes o past asked why → ⊥) (no_fault p m n w)
+no_other_comes o past asked p m n w =
+    let never : ⊥ → ⊥ = λ h. h in (never, (never, (never, (never, (never, (never, (never, (never, (never, (never, (never, (never, (never, (never, (never, (never, tt))))))))))))))))
+
+-- a call that asks for no page isn't refused because every frame was seen with a fix
+pub all_fixed_of_others : (o : Opening) (past : List Event) (p : PageId) (m n : ℕ) (bytes : List ℕ) (seen : List (ℕ × Word))
+    → AllByRecursion (λ asked. Comes o past asked (cause.AllFixed seen) → ⊥) (call.Clean n ∷ other_calls p m n bytes)
+all_fixed_of_others o past p m n bytes seen = let never : ⊥ → ⊥ = λ h. h in (never, (never, (never, (never, (never, (never, (never, (never, (never, (never, (never, (never, tt))))))))))))
 
 -- the kinds that move no page
 abbrev still_kinds : PageId → ℕ → ℕ → ℕ → List ℕ → Call → Cause → List Kind
@@ -214,6 +290,7 @@ load_untold = record {
   still = tt;
   covered = tt;
   causes = tt;
+  victim = tt;
 }
 
 -- .. with any bytes
@@ -223,6 +300,7 @@ copy_untold bytes = record {
   still = tt;
   covered = tt;
   causes = refl;
+  victim = tt;
 }
 
 -- Each event is judged: the newest ..

@@ -45,6 +45,7 @@ load_outside c = record {
   still = tt;
   covered = tt;
   causes = tt;
+  victim = tt;
 }
 
 -- .. but its fix isn't granted
@@ -86,19 +87,21 @@ fault_that_fell c h = let rose : 3 ≤ 1 = h.causes.1.0 in omega (arith, rose)
 -- a count at its end needn't rise
 pub fault_at_the_end : (c : Content) → IsLawful (opening (pages_of c)) [] (entry 1 1 1 (kind.Refused (call.Fix (page 0) 1) (cause.DiskFault (2 ^ 64 - 1) (2 ^ 64 - 1))))
 fault_at_the_end c = record {
-  legal = record { place = refl; number = refl; together = inl refl; before = refl; kind = tt };
+  legal = record { place = refl; number = refl; together = inl refl; before = inl refl; kind = tt };
   still = tt;
   covered = tt;
   causes = (refl, (omega arith, omega arith));
+  victim = tt;
 }
 
 -- a fault at a fix of a resident page breaks no law: that no device is used there is the fix's own promise
 pub fault_at_resident : (c : Content) → IsLawful (opening (pages_of c)) fixed (entry 3 1 2 (kind.Refused (call.Fix (page 0) 1) (cause.DiskFault 0 1)))
 fault_at_resident c = record {
-  legal = record { place = refl; number = refl; together = inl refl; before = refl; kind = tt };
+  legal = record { place = refl; number = refl; together = inl refl; before = inl refl; kind = tt };
   still = tt;
   covered = tt;
   causes = (refl, (omega arith, omega arith));
+  victim = tt;
 }
 
 -- the number that was found is the page's own
@@ -129,6 +132,6 @@ fault_outside c h = one_due (cause.NoSuchPage 64) h.causes.0
 pub fault_unheld : (c : Content) → IsLawful (opening (pages_of c)) unfixed (receipt 2 1 4 (note.Refused (call.Read (page 0) 38 4) (cause.DiskFault 0 1))) → ⊥
 fault_unheld c h = one_due cause.Unheld h.causes.0
 
--- a cause that no call has yet
+-- a fix is refused as one too many, and its caller has none
 pub no_hold_full : (c : Content) → IsLawful (opening (pages_of c)) [] (entry 1 1 1 (kind.Refused (call.Fix (page 0) 1) (cause.HoldFull 64))) → ⊥
 no_hold_full c h = none_due (cause.HoldFull 64) h.causes

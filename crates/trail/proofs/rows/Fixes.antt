@@ -1,5 +1,5 @@
 -- Loads, fixes, copies and unfixes that are wrong.
-use Rattle.std.proofs.Common.{refl, ◌≡◌, ℕ, List, [], ◌∷◌, ◌⊎◌, inl, inr, arith, ap, true, false, get_or, ◌∙◌}
+use Rattle.std.proofs.Common.{refl, ◌≡◌, ℕ, List, [], ◌∷◌, inl, inr, arith, ap, true, false, get_or, ◌∙◌, sym, subst}
 use Rattle.std.proofs.lemmas.Bool.Decides.{nat_tests}
 use Rattle.page_ids.specs.Content.{Content}
 use Rattle.page_ids.specs.declared.frame_word.Word.{Word}
@@ -7,6 +7,8 @@ use Rattle.trail.specs.declared.event.Kind.TheVariants as kind
 use Rattle.trail.specs.declared.event.Note.TheVariants as note
 use Rattle.trail.specs.declared.event.Held.{Held}
 use Rattle.trail.specs.declared.event.Event.{Event}
+use Rattle.trail.specs.Places.{entries}
+use Rattle.trail.specs.Legal.{MayPrecede, IsHad}
 use Rattle.trail.specs.Laws.{IsLawful, IsStill}
 use Rattle.trail.proofs.rows.Shared.{page, pages_of, pages_but, opening, entry, receipt, HasZeros, frames_apart, no_frame, frame_there, fix_there, not_among, none_among}
 use Rattle.trail.proofs.rows.Lawful.{loaded, fixed, copied, unfixed}
@@ -54,15 +56,16 @@ load_other_lawful c = record {
   still = tt;
   covered = tt;
   causes = tt;
+  victim = tt;
 }
 
 -- and then the fix is not
 pub fix_behind_other_load : (c : Content) → IsLawful (opening (pages_of c)) loaded_other (entry 4 1 4 (kind.Fix (page 0) 0 1 5)) → ⊥
 fix_behind_other_load c h = neither h.legal.before
   where
-    neither : (kind.Load (page 1) 1 ∷ [] ≡ []) ⊎ (kind.Load (page 1) 1 ∷ [] ≡ kind.Load (page 0) 0 ∷ []) → ⊥
+    neither : MayPrecede (entries loaded_other) (kind.Load (page 1) 1 ∷ []) (kind.Fix (page 0) 0 1 5) → ⊥
     neither (inl e) = absurd (cc)
-    neither (inr e) = absurd (cc)
+    neither (inr e) = absurd (let same = e.1 in cc)
 
 -- A call loads two pages: that is judged at its answer.
 
@@ -76,15 +79,16 @@ load_twice_lawful c = record {
   still = tt;
   covered = tt;
   causes = tt;
+  victim = tt;
 }
 
 -- and then the fix of neither page is
 pub fix_behind_two_loads : (c : Content) (n clock : ℕ) → IsLawful (opening (pages_of c)) loaded_twice (entry 3 1 1 (kind.Fix (page n) n clock 5)) → ⊥
 fix_behind_two_loads c n clock h = neither h.legal.before
   where
-    neither : (kind.Load (page 1) 1 ∷ kind.Load (page 0) 0 ∷ [] ≡ []) ⊎ (kind.Load (page 1) 1 ∷ kind.Load (page 0) 0 ∷ [] ≡ kind.Load (page n) n ∷ []) → ⊥
+    neither : MayPrecede (entries loaded_twice) (kind.Load (page 1) 1 ∷ kind.Load (page 0) 0 ∷ []) (kind.Fix (page n) n clock 5) → ⊥
     neither (inl e) = absurd (cc)
-    neither (inr e) = absurd (cc)
+    neither (inr e) = let had : kind.Load (page 0) 0 ∷ [] ≡ e.0 = let same = e.1 in cc in subst (IsHad (page n)) (sym had) e.2
 
 -- a page is read that its caller has given back
 pub copy_unheld : (c : Content) → IsLawful (opening (pages_of c)) unfixed (receipt 2 1 4 (note.Copied (page 0) 38 (0 ∷ 0 ∷ 0 ∷ 0 ∷ []) 1)) → ⊥
@@ -138,11 +142,7 @@ move_fixed caller number h = fix_there the_fix (h 1)
 pub evict_unfixed : (caller number : ℕ) → IsStill unfixed (entry 3 caller number (kind.Evict (page 0) 0 []))
 evict_unfixed caller number = λ c. grind (arith, nat_tests)
 
--- no call evicts a page yet
-pub no_evict : (c : Content) → IsLawful (opening (pages_of c)) unfixed (entry 3 1 4 (kind.Evict (page 0) 0 [])) → ⊥
-no_evict c h = h.legal.kind
-
--- nor is a guess granted
+-- no guess is granted yet
 pub no_guess : (c : Content) → IsLawful (opening (pages_of c)) unfixed (receipt 2 1 4 (note.Granted (page 0) 0 1)) → ⊥
 no_guess c h = h.legal.note
 

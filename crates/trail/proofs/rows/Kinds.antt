@@ -2,6 +2,7 @@
 use Rattle.std.proofs.Common.{◌≡◌, ℕ, Bool, true, false, List, [], ◌∷◌, None, Some, Option, map, replicate, refl, ◌++◌}
 use Rattle.page_ids.specs.Content.{Content, patched}
 use Rattle.page_ids.specs.declared.ids.PageId.{PageId}
+use Rattle.page_ids.specs.declared.frame_word.Word.{Word}
 use Rattle.page_ids.specs.declared.layout.BadPage.TheVariants as bad
 use Rattle.trail.specs.declared.event.Call.{Call}
 use Rattle.trail.specs.declared.event.Call.TheVariants as call
@@ -23,6 +24,8 @@ use Rattle.trail.specs.Calls.{kind_answers, is_answer, granted_call, noted_call,
 use Rattle.trail.specs.Book.{is_late}
 use Rattle.trail.specs.Legal.{written_page}
 use Rattle.trail.specs.Causes.{is_exact, due, fixed_page, record_bytes}
+use Rattle.trail.specs.Victim.{is_write_of}
+use Rattle.trail.specs.Alone.{cause_words, words_told, is_clean, ends_clean}
 use Rattle.trail.specs.Promises.{is_own, is_excuse, is_noted}
 use Rattle.trail.proofs.rows.Shared.{page, opening, entry}
 
@@ -197,6 +200,29 @@ grants = refl
 pub written_pages_of : map written_page kinds ≡ replicate 5 None ++ Some (page 3) ∷ replicate 14 None
 written_pages_of = refl
 
+-- a write of the page alone is its write
+pub writes_of_page : map (is_write_of (page 3)) kinds ≡ replicate 5 false ++ true ∷ replicate 14 false
+writes_of_page = refl
+
+-- none is of another page
+pub writes_of_another : map (is_write_of (page 4)) kinds ≡ replicate 20 false
+writes_of_another = refl
+
+-- a clean that is done ends one
+pub ends_cleans : map ends_clean kinds ≡ replicate 12 false ++ true ∷ replicate 7 false
+ends_cleans = refl
+
+-- no words are told where there are none
+pub no_words : map words_told kinds ≡ replicate 20 []
+no_words = refl
+
+abbrev found : List (ℕ × Word)
+found = (2, record { bits = 98305 }) ∷ (0, record { bits = 0 }) ∷ []
+
+-- an evict tells those that it passed, a clean those that it skipped, and a refusal those of its cause
+pub words_of : map words_told (kind.Evict (page 3) 2 found ∷ kind.Clean 1 found ∷ kind.Refused call.Check (cause.AllFixed found) ∷ kind.Refused call.Check (cause.Undone found) ∷ []) ≡ replicate 4 found
+words_of = refl
+
 -- Look-ups, by kind of receipt.
 
 -- each answers its call
@@ -247,7 +273,7 @@ log_counts_by_cause last = refl
 
 -- the causes that each call may have
 pub own : map (λ asked. map (is_own asked) causes) calls
-    ≡ (false ∷ true ∷ replicate 4 false ++ true ∷ true ∷ replicate 13 false)
+    ≡ (false ∷ true ∷ true ∷ false ∷ replicate 4 true ++ replicate 13 false)
     ∷ replicate 21 false
     ∷ (replicate 8 false ++ true ∷ replicate 11 false ++ true ∷ [])
     ∷ (replicate 20 false ++ true ∷ [])
@@ -263,6 +289,14 @@ pub own : map (λ asked. map (is_own asked) causes) calls
     ∷ []
 own = refl
 
+-- no other cause tells words
+pub words_by_cause : map cause_words causes ≡ replicate 21 []
+words_by_cause = refl
+
+-- want of places alone keeps a clean from beginning
+pub cleans_refused : map (λ why. ends_clean (kind.Refused (call.Clean 9) why)) causes ≡ false ∷ replicate 20 true
+cleans_refused = refl
+
 -- those behind which the call's frame is given back: two of a fix, two of a create
 pub late : map (λ asked. map (is_late asked) causes) calls
     ≡ (replicate 6 false ++ true ∷ true ∷ replicate 13 false) ∷ (replicate 6 false ++ true ∷ false ∷ true ∷ replicate 12 false) ∷ replicate 11 (replicate 21 false)
@@ -273,6 +307,10 @@ late = refl
 -- a fix alone asks for a page
 pub fixed_pages : map fixed_page calls ≡ Some (page 3) ∷ replicate 12 None
 fixed_pages = refl
+
+-- a clean alone is one
+pub cleans : map is_clean calls ≡ replicate 9 false ++ true ∷ replicate 3 false
+cleans = refl
 
 -- create and put log a record
 pub record_lengths : map record_bytes calls ≡ None ∷ Some 21 ∷ Some 22 ∷ replicate 10 None

@@ -32,15 +32,17 @@ load_lawful c = record {
   still = tt;
   covered = tt;
   causes = tt;
+  victim = tt;
 }
 
 -- the fix is granted where the page is
 pub fix_lawful : (c : Content) → IsLawful (opening (pages_of c)) loaded (entry 2 1 1 (kind.Fix (page 0) 0 1 5))
 fix_lawful c = record {
-  legal = record { place = refl; number = refl; together = inr refl; before = inr refl; kind = record { resident = refl; unchanged = refl } };
+  legal = record { place = refl; number = refl; together = inr refl; before = inr ([], refl, tt); kind = record { resident = refl; unchanged = refl } };
   still = tt;
   covered = tt;
   causes = refl;
+  victim = tt;
 }
 
 -- the bytes are the page's
@@ -50,6 +52,7 @@ copy_lawful c zeros = record {
   still = tt;
   covered = tt;
   causes = refl;
+  victim = tt;
 }
 
 -- the call that got the fix is named
@@ -59,6 +62,7 @@ unfix_lawful c = record {
   still = tt;
   covered = tt;
   causes = refl;
+  victim = tt;
 }
 
 -- no page is dirty
@@ -68,6 +72,7 @@ clean_lawful c = record {
   still = tt;
   covered = tt;
   causes = refl;
+  victim = tt;
 }
 
 -- the trail of one read
@@ -76,4 +81,5 @@ one_read c zeros = record {
   first = refl;
   each = (clean_lawful c, (unfix_lawful c, (copy_lawful c zeros, (fix_lawful c, (load_lawful c, tt)))));
   answered = λ caller. grind (arith, nat_tests);
+  alone = λ caller only. (tt, (tt, (tt, (tt, (tt, tt)))));
 }

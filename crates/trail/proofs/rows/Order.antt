@@ -47,6 +47,7 @@ parted_good c = (
     still = tt;
     covered = tt;
     causes = refl;
+    victim = tt;
   },
   (load_lawful c, tt),
 )
@@ -87,6 +88,7 @@ second_first_lawful c = record {
   still = tt;
   covered = tt;
   causes = refl;
+  victim = tt;
 }
 
 -- and then the first one's is not

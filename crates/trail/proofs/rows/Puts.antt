@@ -47,10 +47,11 @@ put_read c at bytes lsn inside =
 -- the fix
 pub first_fix_lawful : (c : Content) → IsLawful (opening (pages_of c)) loaded (entry 2 1 1 (kind.Fix (page 0) 0 1 1))
 first_fix_lawful c = record {
-  legal = record { place = refl; number = refl; together = inr refl; before = inr refl; kind = record { resident = refl; unchanged = refl } };
+  legal = record { place = refl; number = refl; together = inr refl; before = inr ([], refl, tt); kind = record { resident = refl; unchanged = refl } };
   still = tt;
   covered = tt;
   causes = refl;
+  victim = tt;
 }
 
 -- the caller has a fix, the byte is the last one before the trailer, and its record has 22 bytes
@@ -60,6 +61,7 @@ put_lawful c = record {
   still = tt;
   covered = tt;
   causes = refl;
+  victim = tt;
 }
 
 -- the byte is read, at the clock of the change
@@ -69,6 +71,7 @@ reread_lawful c inside = record {
   still = tt;
   covered = tt;
   causes = refl;
+  victim = tt;
 }
 
 -- the page is given back
@@ -78,6 +81,7 @@ return_lawful c = record {
   still = tt;
   covered = tt;
   causes = refl;
+  victim = tt;
 }
 
 -- it is written with the end of its record, up to which the log is durable
@@ -87,6 +91,7 @@ write_lawful c = record {
   still = tt;
   covered = record { dirt = record { page = page 0; oldest = 8192; newest = 8214 }; is_dirty = refl; newest = refl; logged = omega arith };
   causes = tt;
+  victim = tt;
 }
 
 -- the clean counts it
@@ -96,6 +101,7 @@ close_lawful c = record {
   still = tt;
   covered = tt;
   causes = refl;
+  victim = tt;
 }
 
 -- the trail of one change
@@ -104,6 +110,7 @@ one_put c inside = record {
   first = refl;
   each = (close_lawful c, (write_lawful c, (return_lawful c, (reread_lawful c inside, (put_lawful c, (first_fix_lawful c, (load_lawful c, tt)))))));
   answered = λ caller. grind (arith, nat_tests);
+  alone = λ caller only. (tt, (tt, (tt, (tt, (tt, (tt, (tt, tt)))))));
 }
 
 -- it has no refusal
@@ -125,6 +132,7 @@ spent_lawful c = record {
   still = tt;
   covered = tt;
   causes = (refl, record { behind = omega arith; beyond = omega arith });
+  victim = tt;
 }
 
 -- the trail of it
@@ -137,6 +145,7 @@ spent_log c = record {
       still = tt;
       covered = tt;
       causes = refl;
+      victim = tt;
     },
     (
       record {
@@ -144,16 +153,18 @@ spent_log c = record {
         still = tt;
         covered = tt;
         causes = refl;
+        victim = tt;
       },
       (spent_lawful c, (first_fix_lawful c, (load_lawful c, tt))),
     ),
   );
   answered = λ caller. grind (arith, nat_tests);
+  alone = λ caller only. (tt, (tt, (tt, (tt, (tt, tt)))));
 }
 
 -- and its promise
 pub spent_promised : (c : Content) → ArePromised (opening (pages_of c)) spent_closed
-spent_promised c = (tt, (tt, (record { own = refl; filed = refl; excused = tt }, (tt, (tt, tt)))))
+spent_promised c = (tt, (tt, (record { own = refl; filed = refl; excused = tt; rising = tt }, (tt, (tt, tt)))))
 
 -- one LSN too few is enough
 pub spent_by_one : (c : Content) → IsLawful (opening (pages_of c)) first_fixed (entry 3 1 2 (kind.Refused (call.Put (page 0) 38 (1 ∷ [])) (cause.LogSpent (2 ^ 63 - 21))))
@@ -162,6 +173,7 @@ spent_by_one c = record {
   still = tt;
   covered = tt;
   causes = (refl, record { behind = omega arith; beyond = omega arith });
+  victim = tt;
 }
 
 -- a blank page's record has 21 bytes
@@ -171,6 +183,7 @@ create_spent_by_one c = record {
   still = tt;
   covered = tt;
   causes = (refl, record { behind = omega arith; beyond = omega arith });
+  victim = tt;
 }
 
 -- A page that was given back is changed: the refusal is a receipt.
@@ -185,8 +198,9 @@ no_put_lawful c = record {
   still = tt;
   covered = tt;
   causes = refl;
+  victim = tt;
 }
 
 -- and promised
 pub no_put_promised : (c : Content) → ArePromised (opening (pages_of c)) not_put
-no_put_promised c = (record { own = refl; filed = refl; excused = tt }, (tt, (tt, (tt, (tt, tt)))))
+no_put_promised c = (record { own = refl; filed = refl; excused = tt; rising = tt }, (tt, (tt, (tt, (tt, tt)))))

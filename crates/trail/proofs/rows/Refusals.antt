@@ -23,10 +23,12 @@ nothing_done o = record {
       still = tt;
       covered = tt;
       causes = refl;
+      victim = tt;
     },
     tt,
   );
   answered = λ caller. grind (arith, nat_tests);
+  alone = λ caller only. (tt, tt);
 }
 
 -- Fixes of pages outside their spaces are refused, then a read and an unfix of such a page.
@@ -53,6 +55,7 @@ miss_lawful c = record {
   still = tt;
   covered = tt;
   causes = refl;
+  victim = tt;
 }
 
 -- a space that isn't there has no pages
@@ -62,6 +65,7 @@ miss_again_lawful c = record {
   still = tt;
   covered = tt;
   causes = refl;
+  victim = tt;
 }
 
 -- its read is unheld
@@ -71,6 +75,7 @@ no_read_lawful c = record {
   still = tt;
   covered = tt;
   causes = refl;
+  victim = tt;
 }
 
 -- and its unfix
@@ -80,6 +85,7 @@ no_unfix_lawful c = record {
   still = tt;
   covered = tt;
   causes = refl;
+  victim = tt;
 }
 
 -- the trail of these four calls
@@ -92,10 +98,12 @@ outside_pages c = record {
       still = tt;
       covered = tt;
       causes = refl;
+      victim = tt;
     },
     (no_unfix_lawful c, (no_read_lawful c, (miss_again_lawful c, (miss_lawful c, tt)))),
   );
   answered = λ caller. grind (arith, nat_tests);
+  alone = λ caller only. (tt, (tt, (tt, (tt, (tt, tt)))));
 }
 
 -- A page whose bytes have another number.
@@ -106,10 +114,11 @@ unsound = entry 1 1 1 (kind.Refused (call.Fix (page 7) 1) (cause.BadPage (bad.Nu
 -- its fix is refused as bad
 pub unsound_lawful : (c : Content) → IsLawful (opening (pages_but c)) [] (entry 1 1 1 (kind.Refused (call.Fix (page 7) 1) (cause.BadPage (bad.Number 8))))
 unsound_lawful c = record {
-  legal = record { place = refl; number = refl; together = inl refl; before = refl; kind = tt };
+  legal = record { place = refl; number = refl; together = inl refl; before = inl refl; kind = tt };
   still = tt;
   covered = tt;
   causes = (refl, (λ same. omega (arith, same)));
+  victim = tt;
 }
 
 -- the trail of its fix
@@ -122,10 +131,12 @@ unsound_page c = record {
       still = tt;
       covered = tt;
       causes = refl;
+      victim = tt;
     },
     (unsound_lawful c, tt),
   );
   answered = λ caller. grind (arith, nat_tests);
+  alone = λ caller only. (tt, (tt, tt));
 }
 
 -- A read fails; the free frame in front went to the back, and the next load takes the one behind it.
@@ -142,10 +153,11 @@ fixed_next = entry 3 1 2 (kind.Fix (page 1) 1 2 3) ∷ loaded_next
 -- the read fails
 pub fail_lawful : (c : Content) → IsLawful (opening (pages_of c)) [] (entry 1 1 1 (kind.Refused (call.Fix (page 0) 1) (cause.DiskFault 0 1)))
 fail_lawful c = record {
-  legal = record { place = refl; number = refl; together = inl refl; before = refl; kind = tt };
+  legal = record { place = refl; number = refl; together = inl refl; before = inl refl; kind = tt };
   still = tt;
   covered = tt;
   causes = (refl, (omega arith, omega arith));
+  victim = tt;
 }
 
 -- the next page takes the second frame
@@ -155,6 +167,7 @@ load_next_lawful c = record {
   still = tt;
   covered = tt;
   causes = tt;
+  victim = tt;
 }
 
 -- the trail of this refused fix and the granted one behind it
@@ -167,6 +180,7 @@ failed_read c = record {
       still = tt;
       covered = tt;
       causes = refl;
+      victim = tt;
     },
     (
       record {
@@ -174,19 +188,22 @@ failed_read c = record {
         still = tt;
         covered = tt;
         causes = refl;
+        victim = tt;
       },
       (
         record {
-          legal = record { place = refl; number = refl; together = inr refl; before = inr refl; kind = record { resident = refl; unchanged = refl } };
+          legal = record { place = refl; number = refl; together = inr refl; before = inr ([], refl, tt); kind = record { resident = refl; unchanged = refl } };
           still = tt;
           covered = tt;
           causes = refl;
+          victim = tt;
         },
         (load_next_lawful c, (fail_lawful c, tt)),
       ),
     ),
   );
   answered = λ caller. grind (arith, nat_tests);
+  alone = λ caller only. (tt, (tt, (tt, (tt, (tt, tt)))));
 }
 
 -- the disk fails in the closing clean
@@ -199,8 +216,10 @@ failed_close o = record {
       still = tt;
       covered = tt;
       causes = (refl, (omega arith, omega arith));
+      victim = tt;
     },
     tt,
   );
   answered = λ caller. grind (arith, nat_tests);
+  alone = λ caller only. (tt, tt);
 }

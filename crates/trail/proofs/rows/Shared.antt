@@ -1,5 +1,5 @@
 -- What the rows share: a pool of four frames, the pages of space 0, and short names for events and trails.
-use Rattle.std.proofs.Common.{◌≡◌, ◌≢◌, ℕ, List, [], ◌∷◌, ◌==◌, ◌&&◌, if◌then◌else◌, nat_lt, Option, None, Some, slice_range, arith, Contains, get_or, subst, reverse}
+use Rattle.std.proofs.Common.{◌≡◌, ◌≢◌, ◌⊎◌, inl, inr, ℕ, List, [], ◌∷◌, ◌==◌, ◌&&◌, if◌then◌else◌, nat_lt, Option, None, Some, slice_range, arith, Contains, get_or, subst, reverse}
 use Rattle.page_ids.specs.Content.{Content}
 use Rattle.page_ids.specs.declared.ids.PageId.{PageId}
 use Rattle.page_ids.specs.declared.ids.PageSize.TheVariants.{Kib4}
@@ -10,6 +10,9 @@ use Rattle.trail.specs.declared.event.Held.{Held}
 use Rattle.trail.specs.declared.event.Event.{Event}
 use Rattle.trail.specs.declared.event.Event.TheVariants as event
 use Rattle.trail.specs.Events.{Events}
+use Rattle.trail.specs.Places.{entries}
+use Rattle.trail.specs.History.{home}
+use Rattle.trail.specs.Legal.{IsHad}
 use Rattle.trail.specs.Opening.{Opening}
 
 -- the page of this number in space 0
@@ -63,6 +66,14 @@ no_frame f same = absurd (cc)
 -- a frame is not none
 pub frame_there : (f : ℕ) → Some f ≡ None → ⊥
 frame_there f same = absurd (cc)
+
+-- a refused fix that has entries had a frame by them, for a page without a home
+abbrev pub none_or_had : List Event → PageId → List Kind → Type 0
+none_or_had past p made = (made ≡ []) ⊎ ((home (entries past) p ≡ None) × IsHad p made)
+
+pub frame_behind : (past : List Event) (p : PageId) (k : Kind) (made : List Kind) → none_or_had past p (k ∷ made) → (home (entries past) p ≡ None) × IsHad p (k ∷ made)
+frame_behind past p k made (inl none) = absurd (cc)
+frame_behind past p k made (inr had) = had
 
 -- a fix is not none
 pub fix_there : (fix : Held) → Some fix ≡ None → ⊥

@@ -62,6 +62,7 @@ changes_good c = (
     still = tt;
     covered = tt;
     causes = refl;
+    victim = tt;
   },
   (
     record {
@@ -69,6 +70,7 @@ changes_good c = (
       still = tt;
       covered = tt;
       causes = refl;
+      victim = tt;
     },
     (
       record {
@@ -76,6 +78,7 @@ changes_good c = (
         still = tt;
         covered = tt;
         causes = refl;
+        victim = tt;
       },
       (
         record {
@@ -83,13 +86,15 @@ changes_good c = (
           still = tt;
           covered = tt;
           causes = refl;
+          victim = tt;
         },
         (
           record {
-            legal = record { place = refl; number = refl; together = inr refl; before = inr refl; kind = record { resident = refl; unchanged = refl } };
+            legal = record { place = refl; number = refl; together = inr refl; before = inr ([], refl, tt); kind = record { resident = refl; unchanged = refl } };
             still = tt;
             covered = tt;
             causes = refl;
+            victim = tt;
           },
           (
             record {
@@ -97,6 +102,7 @@ changes_good c = (
               still = tt;
               covered = tt;
               causes = tt;
+              victim = tt;
             },
             (
               record {
@@ -104,6 +110,7 @@ changes_good c = (
                 still = tt;
                 covered = tt;
                 causes = refl;
+                victim = tt;
               },
               (fix_lawful c, (load_lawful c, tt)),
             ),
@@ -121,6 +128,7 @@ write_one_lawful c = record {
   still = tt;
   covered = record { dirt = oldest; is_dirty = refl; newest = refl; logged = omega arith };
   causes = tt;
+  victim = tt;
 }
 
 -- then the other one
@@ -130,6 +138,7 @@ write_other_lawful c = record {
   still = tt;
   covered = record { dirt = newest; is_dirty = refl; newest = refl; logged = omega arith };
   causes = tt;
+  victim = tt;
 }
 
 -- the trail of a clean of both
@@ -142,10 +151,12 @@ both_cleaned c = record {
       still = tt;
       covered = tt;
       causes = refl;
+      victim = tt;
     },
     (write_other_lawful c, (write_one_lawful c, changes_good c)),
   );
   answered = λ caller. grind (arith, nat_tests);
+  alone = λ caller only. (tt, (tt, (tt, (tt, (tt, (tt, (tt, (tt, (tt, (tt, (tt, (tt, tt))))))))))));
 }
 
 -- a clean may stop at a bound: the rest stays dirty
@@ -155,6 +166,7 @@ one_cleaned c = record {
   still = tt;
   covered = tt;
   causes = refl;
+  victim = tt;
 }
 
 -- even before the first
@@ -164,6 +176,7 @@ none_cleaned c = record {
   still = tt;
   covered = tt;
   causes = refl;
+  victim = tt;
 }
 
 -- The log fails behind the first write of the closing clean.
@@ -178,15 +191,21 @@ log_failed_lawful c = record {
   still = tt;
   covered = tt;
   causes = (refl, (omega arith, omega arith));
+  victim = tt;
 }
 
 -- the trail of it
 pub log_failed_trail : (c : Content) → IsLawfulTrail (opening (pages_of c)) (trail log_failed)
-log_failed_trail c = record { first = refl; each = (log_failed_lawful c, (write_one_lawful c, changes_good c)); answered = λ caller. grind (arith, nat_tests) }
+log_failed_trail c = record {
+  first = refl;
+  each = (log_failed_lawful c, (write_one_lawful c, changes_good c));
+  answered = λ caller. grind (arith, nat_tests);
+  alone = λ caller only. (tt, (tt, (tt, (tt, (tt, (tt, (tt, (tt, (tt, (tt, (tt, tt)))))))))));
+}
 
 -- and its promise
 pub log_failed_promised : (c : Content) → ArePromised (opening (pages_of c)) log_failed
-log_failed_promised c = (record { own = refl; filed = refl; excused = tt }, (tt, (tt, (tt, (tt, (tt, (tt, (tt, (tt, (tt, (tt, tt)))))))))))
+log_failed_promised c = (record { own = refl; filed = refl; excused = tt; rising = tt }, (tt, (tt, (tt, (tt, (tt, (tt, (tt, (tt, (tt, (tt, tt)))))))))))
 
 -- Or the disk does, at the second write.
 
@@ -200,15 +219,21 @@ disk_failed_lawful c = record {
   still = tt;
   covered = tt;
   causes = (refl, (omega arith, omega arith));
+  victim = tt;
 }
 
 -- the trail of it
 pub disk_failed_trail : (c : Content) → IsLawfulTrail (opening (pages_of c)) (trail disk_failed)
-disk_failed_trail c = record { first = refl; each = (disk_failed_lawful c, (write_one_lawful c, changes_good c)); answered = λ caller. grind (arith, nat_tests) }
+disk_failed_trail c = record {
+  first = refl;
+  each = (disk_failed_lawful c, (write_one_lawful c, changes_good c));
+  answered = λ caller. grind (arith, nat_tests);
+  alone = λ caller only. (tt, (tt, (tt, (tt, (tt, (tt, (tt, (tt, (tt, (tt, (tt, tt)))))))))));
+}
 
 -- and its promise
 pub disk_failed_promised : (c : Content) → ArePromised (opening (pages_of c)) disk_failed
-disk_failed_promised c = (record { own = refl; filed = refl; excused = tt }, (tt, (tt, (tt, (tt, (tt, (tt, (tt, (tt, (tt, (tt, tt)))))))))))
+disk_failed_promised c = (record { own = refl; filed = refl; excused = tt; rising = tt }, (tt, (tt, (tt, (tt, (tt, (tt, (tt, (tt, (tt, (tt, tt)))))))))))
 
 -- Each device has a count of its own: the log's next fault begins where the log's last one ended, whatever the disk's was.
 
@@ -218,6 +243,7 @@ log_fault_behind_disk_fault c = record {
   still = tt;
   covered = tt;
   causes = (refl, (omega arith, omega arith));
+  victim = tt;
 }
 
 -- and the disk's
@@ -227,4 +253,5 @@ disk_fault_behind_log_fault c = record {
   still = tt;
   covered = tt;
   causes = (refl, (omega arith, omega arith));
+  victim = tt;
 }

@@ -1,5 +1,5 @@
 use Rattle.std.proofs.Common.{◌≡◌, inl, inr, ◌++◌, length, vec_len, rules, arith, ap, ◌∙◌, sym}
-use Rattle.script_run.proofs.Reading.{later_refusal}
+use Rattle.script_run.proofs.Reading.{later_refusal, all_taken, more_taken}
 use Rattle.script_run.proofs.ends.read_all.Goals as goal
 
 pub loop-source-init : goal.loop-source-init
@@ -34,3 +34,18 @@ returns-clause-given g c = λ bytes e.
     let before = c.loop-source.invariant.3.given bytes e in
     let whole : length c.loop-source.all.items ≡ vec_len c.loop-source.all = search rules in
     (before.0, before.1, before.2, inr (omega (arith, whole, c.loop-source-test.false, c.len.ensures, c.loop-source.invariant.1)))
+
+pub returns-in-Ok-false-clause-taken : goal.returns-in-Ok-false-clause-taken
+returns-in-Ok-false-clause-taken g c =
+    let whole : length c.loop-source.all.items ≡ vec_len c.loop-source.all = search rules in
+    more_taken 1048577 (vec_len c.loop-source.all) c.loop-source.all.items _ _ _ whole c.loop-source.invariant.3.given c.take_more.ensures.taken
+
+pub returns-in-Err-clause-taken : goal.returns-in-Err-clause-taken
+returns-in-Err-clause-taken g c =
+    let whole : length c.loop-source.all.items ≡ vec_len c.loop-source.all = search rules in
+    more_taken 1048577 (vec_len c.loop-source.all) c.loop-source.all.items _ _ _ whole c.loop-source.invariant.3.given c.take_more.ensures.taken
+
+pub returns-clause-taken : goal.returns-clause-taken
+returns-clause-taken g c =
+    let whole : length c.loop-source.all.items ≡ vec_len c.loop-source.all = search rules in
+    all_taken 1048577 (vec_len c.loop-source.all) c.loop-source.all.items _ _ whole c.loop-source.invariant.1 c.loop-source.invariant.3.given

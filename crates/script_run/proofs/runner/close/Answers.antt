@@ -1,4 +1,4 @@
-use Rattle.std.proofs.Common.{◌≡◌, ◌≤◌, ◌<◌, ◌+◌, ℕ, List, [], Option, Some, Result, IfOk, inl, inr, ◌⊎◌, length, sym, subst, arith}
+use Rattle.std.proofs.Common.{◌≡◌, ◌≤◌, ◌+◌, ℕ, List, [], Option, Some, Result, IfOk, inl, inr, ◌⊎◌, length, sym, subst, arith}
 use Rattle.page_disk.specs.declared.shelf.FaultAt.{FaultAt}
 use Rattle.page_ids.specs.declared.faults.OutOfMemory.{OutOfMemory}
 use Rattle.trail.specs.declared.event.Entry.{Entry}
@@ -8,14 +8,14 @@ use Rattle.desk.specs.Changes.{IsCleanRefusal}
 use Rattle.script_run.specs.Work.{senses}
 use Rattle.script_run.specs.Runs.{IsClosed}
 use Rattle.script_run.proofs.Framing.{all_told}
-use Rattle.script_run.proofs.Flushing.{runner, few_dirty, write_backs}
+use Rattle.script_run.proofs.Flushing.{runner, write_backs}
 use Rattle.script_run.proofs.runner.close.Goals as goal
 use Rattle.script_run.proofs.runner.close.Goals.{in-Ok, in-Err-OutOfMemory, in-Err-RedoFault, in-Err-DiskFault}
 
 -- fewer pages are dirty than a clean may write
-none_left : (written few : ℕ) (old new : List Entry) → written + few ≤ length old → length old < 16384 → (written ≡ 16384) ⊎ (dirty new ≡ []) → dirty new ≡ []
-none_left written few old new le less (inl full) = absurd (omega (arith, le, less, full))
-none_left written few old new le less (inr none) = none
+none_left : (written left dirt frames : ℕ) (new : List Entry) → written + left ≡ dirt → dirt ≤ frames → frames ≤ 8192 → (written ≡ 16384) ⊎ (dirty new ≡ []) → dirty new ≡ []
+none_left written left dirt frames new all few less (inl full) = absurd (omega (arith, all, few, less, full))
+none_left written left dirt frames new all few less (inr none) = none
 
 pub clean_at-requires-clause-alone : goal.clean_at-requires-clause-alone
 clean_at-requires-clause-alone g c κs within =
@@ -33,11 +33,10 @@ returns-clause-closed g c =
           let ok = w.in-Ok.ensures.ok.1 in
           let n = w.in-Ok.field-0.written in
           let all = write_backs old.config.first runner n old.history ok.cleaned.mid c.dirty_pages_are_apart.ensures.front ok.cleaned.writes in
-          let few = few_dirty old.history in
           subst P (sym w.result-is) (record {
             written = n;
             cleaned = ok.cleaned;
-            clean = λ fine. none_left n (length (dirty ok.cleaned.mid)) old.history new.history (omega (arith, all, few)) c.requires.few ok.all;
+            clean = λ fine. none_left n (length (dirty ok.cleaned.mid)) (length (dirty old.history)) old.config.frames new.history all c.clean_at.ensures.few c.requires.frames ok.all;
           })
       | in-Err-OutOfMemory w ↦ subst P (sym w.result-is) tt
       | in-Err-RedoFault w ↦

@@ -1,7 +1,8 @@
-use Rattle.std.proofs.Common.{◌≡◌, ◌<◌, ◌≤◌, ℕ, List, [], ◌∷◌, Option, None, Some, IfSome, ap, ◌∙◌, sym, subst, refl, rules, arith, reverse, length}
+use Rattle.std.proofs.Common.{◌≡◌, ◌<◌, ◌≤◌, ◌+◌, ◌*◌, ◌^◌, ℕ, List, [], ◌∷◌, Option, None, Some, IfSome, ap, ◌∙◌, sym, subst, refl, rules, arith, reverse, length}
 use Rattle.std.specs.List.{AllByRecursion}
 use Rattle.std.specs.Prelude.{unwrap_or}
 use Rattle.std.proofs.lemmas.List.{length-reverse}
+use Rattle.std.proofs.lemmas.List.Sums.{sum_by-cons}
 use Rattle.page_ids.specs.Content.{Content}
 use Rattle.page_ids.specs.Size.{page_bytes}
 use Rattle.page_ids.specs.declared.ids.PageId.{PageId}
@@ -28,8 +29,10 @@ use Rattle.desk.specs.Tied.{AreTied}
 use Rattle.script_text.specs.Plan.{commands_of}
 use Rattle.script_text.specs.Within.{IsInRange}
 use Rattle.script_text.specs.declared.script.Command.{Command}
+use Rattle.script_text.specs.declared.script.Command.TheVariants as command
+use Rattle.script_text.specs.Grammar.{calls_of, calls_in}
 use Rattle.script_run.specs.Openings.{Start, opening_of, opened_of, AreFaultsWithin}
-use Rattle.script_run.specs.Work.{Senses, Working, SoFar, StandsBehind, Worked, IsReady, IsBehindIt, AreInChunk, senses}
+use Rattle.script_run.specs.Work.{Senses, Working, SoFar, StandsBehind, Worked, IsReady, IsBehindIt, AreInChunk, AreApart, senses}
 use Rattle.script_run.specs.Workers.{working}
 use Rattle.script_run.specs.Runs.{IsDiskOf, AreKept, EndsBehind, reports}
 use Rattle.script_run.proofs.Finished.{so_far_new, finished, Merges}
@@ -46,8 +49,10 @@ ready_new : {D : Type 0} (sense : Senses D) (desk : State D) (frames : Plain) �
 ready_new sense desk frames tied none unfixed = record {
   tied = tied;
   homes = let H : List Entry → Type 0 = λ h. AreInChunk desk.config h in subst H (sym none) (λ p f here. absurd (cc));
+  apart = let A : List Entry → Type 0 = λ h. AreApart h in subst A (sym none) (λ p q f here there. absurd (cc));
   housed = tt;
   held = unfixed;
+  few = omega arith;
 }
 
 pub new-requires-clause-start : goal.new-requires-clause-start
@@ -73,6 +78,49 @@ work-requires-clause-ranges g c κs within =
     let config : c.in-Ok-new.desk.state.config ≡ c.args.script.now.config = c.in-Ok-new.ensures.fresh.config_is ∙ c.config-config.ensures in
     subst (λ x. R x c.commands.result.now) (sym config) (subst (λ l. R c.args.script.now.config l) (sym c.commands.ensures) there)
 
+one_call : (c : Command) → calls_of c ≡ 1
+one_call (command.Fix p now) = refl
+one_call (command.Read p at len) = refl
+one_call (command.Put p at bytes) = refl
+one_call (command.Unfix p) = refl
+
+all_calls : (commands : List Command) → calls_in commands ≡ length commands
+all_calls [] = refl
+all_calls (c ∷ commands) =
+    let more : calls_in (c ∷ commands) ≡ calls_of c + calls_in commands = sum_by-cons calls_of c commands in
+    omega (arith, more, one_call c, all_calls commands)
+
+-- a script has few commands, and no entry yet
+few_places : (first n calls : ℕ) (history : List Entry) → first ≡ 0 → history ≡ [] → calls ≡ n → calls ≤ 65536 → first + length history + 4 * n < 2 ^ 48
+few_places first n calls history start none same few = omega (arith, start, ap (length {A = Entry}) none, same, few)
+
+few_numbers : (next n calls : ℕ) → next ≡ 1 → calls ≡ n → calls ≤ 65536 → next + n + 64 < 2 ^ 32
+few_numbers next n calls start same few = omega (arith, start, same, few)
+
+few_more : (first n calls was is : ℕ) → first ≡ 0 → was ≡ 0 → calls ≡ n → calls ≤ 65536 → is ≤ was + 4 * n → first + 2 * is + 1 < 2 ^ 48
+few_more first n calls was is start none same few grown = omega (arith, start, none, same, few, grown)
+
+pub work-requires-clause-places : goal.work-requires-clause-places
+work-requires-clause-places g c κs within =
+    let fresh = c.in-Ok-new.ensures.fresh in
+    let first = ap (λ (x : Config). x.first) (fresh.config_is ∙ c.config-config.ensures) ∙ c.requires.script.config.first in
+    few_places c.in-Ok-new.desk.state.config.first (length c.commands.result.now) (calls_in (commands_of c.args.script.now)) c.in-Ok-new.desk.state.history first fresh.history
+    (all_calls (commands_of c.args.script.now) ∙ ap (length {A = Command}) (sym c.commands.ensures)) c.requires.script.calls
+
+pub work-requires-clause-number : goal.work-requires-clause-number
+work-requires-clause-number g c κs within =
+    few_numbers c.new-worker.result.next (length c.commands.result.now) (calls_in (commands_of c.args.script.now)) (ap (λ (x : Working). x.next) c.new-worker.ensures)
+    (all_calls (commands_of c.args.script.now) ∙ ap (length {A = Command}) (sym c.commands.ensures)) c.requires.script.calls
+
+pub close-requires-clause-places : goal.close-requires-clause-places
+close-requires-clause-places g c κs within =
+    let fresh = c.in-Ok-new.ensures.fresh in
+    let worked = c.in_ok-work.ensures in
+    let desk = c.work.new.desk.state in
+    let first = ap (λ (x : Config). x.first) (worked.left.config ∙ fresh.config_is ∙ c.config-config.ensures) ∙ c.requires.script.config.first in
+    few_more desk.config.first (length c.commands.result.now) (calls_in (commands_of c.args.script.now)) (length c.in-Ok-new.desk.state.history) (length desk.history) first
+    (ap (length {A = Entry}) fresh.history) (all_calls (commands_of c.args.script.now) ∙ ap (length {A = Command}) (sym c.commands.ensures)) c.requires.script.calls worked.grown
+
 pub returns-clause-run : goal.returns-clause-run
 returns-clause-run g c =
     let D = g.row.D.Denot in
@@ -80,7 +128,7 @@ returns-clause-run g c =
     let told = g.D.PageDisk.told in
     let spaces = g.D.PageDisk.space_pages in
     let sense = senses g.D.PageDisk.page_size tells told spaces g.D.PageDisk.fault_count in
-    let report = reports g.R.RedoDisk.told g.R.RedoDisk.fault_count in
+    let report = reports g.R.RedoDisk.told g.R.RedoDisk.opened g.R.RedoDisk.fault_count in
     let plan = c.args.script.now in
     let disk : D = c.args.disk in
     let last : D = c.end-disk.result.0 in
@@ -108,7 +156,7 @@ returns-clause-run g c =
     let law : Merges = record { numbered = c.one_account_merges.ensures.numbered; within = c.one_account_merges.ensures.within; merged_is = c.one_account_merges.ensures.merged } in
     let front = c.dirty_pages_are_apart.ensures.front in
     let spaces_are : (s : ℕ) → sense.spaces last s ≡ sense.spaces disk s = λ s.
-    ap (λ d. sense.spaces d s) last_is ∙ c.close.ensures.spaces s ∙ c.in_ok-work.ensures.disk.spaces_are s ∙ ap (λ d. sense.spaces d s) fresh.disk_is in
+    ap (λ d. sense.spaces d s) last_is ∙ c.close.ensures.spaces s ∙ c.in_ok-work.ensures.left.spaces_are s ∙ ap (λ d. sense.spaces d s) fresh.disk_is in
     let C : List Command → Type 0 = λ commands. (o : Opening) (begin : Start) (past : List Event) → SoFar sense o begin c.in-Ok-new.desk.state c.in-Ok.redo.seen (working c.new-worker.result) past []
     → StandsBehind sense o begin c.in-Ok-new.desk.state frames → Worked sense o begin desk was w past commands in
     let done = subst C c.commands.ensures c.in_ok-work.ensures.done in

@@ -11,7 +11,7 @@ use Rattle.script_run.proofs.runner.run_script.Goals as goal
 pub returns-then-is_none-clause-ended : goal.returns-then-is_none-clause-ended
 returns-then-is_none-clause-ended g c = λ ended.
     let sense = senses g.H.Disk.PageDisk.page_size g.H.Disk.PageDisk.tells g.H.Disk.PageDisk.told g.H.Disk.PageDisk.space_pages g.H.Disk.PageDisk.fault_count in
-    let report = reports g.H.Redo.RedoDisk.told g.H.Redo.RedoDisk.fault_count in
+    let report = reports g.H.Redo.RedoDisk.told g.H.Redo.RedoDisk.opened g.H.Redo.RedoDisk.fault_count in
     let s = c.args.shelf.now in
     let shelf : Handed = handed (g.H.Shelf.disk_told s 0) (g.H.Shelf.disk_spaces s 0) (g.H.Shelf.disk_faults s 0) (g.H.Shelf.log_told s) (g.H.Shelf.log_faults s) in
     let disk = c.in-Ok.disk in
@@ -47,7 +47,7 @@ returns-then-is_none-clause-cut g c = λ five.
 pub returns-in-Ok-listed-clause-ended : goal.returns-in-Ok-listed-clause-ended
 returns-in-Ok-listed-clause-ended g c = λ ended.
     let sense = senses g.H.Disk.PageDisk.page_size g.H.Disk.PageDisk.tells g.H.Disk.PageDisk.told g.H.Disk.PageDisk.space_pages g.H.Disk.PageDisk.fault_count in
-    let report = reports g.H.Redo.RedoDisk.told g.H.Redo.RedoDisk.fault_count in
+    let report = reports g.H.Redo.RedoDisk.told g.H.Redo.RedoDisk.opened g.H.Redo.RedoDisk.fault_count in
     let s = c.args.shelf.now in
     let shelf : Handed = handed (g.H.Shelf.disk_told s 0) (g.H.Shelf.disk_spaces s 0) (g.H.Shelf.disk_faults s 0) (g.H.Shelf.log_told s) (g.H.Shelf.log_faults s) in
     let disk = c.in-Ok.disk in

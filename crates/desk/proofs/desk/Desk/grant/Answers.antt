@@ -1,7 +1,10 @@
-use Rattle.std.proofs.Common.{◌≡◌}
+use Rattle.std.proofs.Common.{◌≡◌, refl, ap}
 use Rattle.trail.specs.declared.event.Kind.TheVariants as kind
 use Rattle.frame_words.specs.Appends.{appended}
+use Rattle.frame_words.specs.Seen.{FramesSeen}
 use Rattle.desk.specs.Steps.{next_entry}
+use Rattle.desk.proofs.Evicting.{leaves_more, leaves_none}
+use Rattle.desk.proofs.Fixing.{one_more, settled_held}
 use Rattle.desk.proofs.Loading.{visiting, behind_on, behind_fixed}
 use Rattle.desk.proofs.Tying.{below_rows, granted, tied_on, tied_fixed}
 use Rattle.desk.proofs.desk.Desk.grant.Goals as goal
@@ -32,3 +35,24 @@ returns-clause-behind g c = λ o before.
     behind_on g.D.PageDisk.tells g.D.PageDisk.told g.D.PageDisk.space_pages o old c.append.new.self.state c.args.by (kind.Fix c.args.page f clock c.args.now) (g.F.Frames.seen c.append.new.frames) _
     c.append.ensures.appended c.append.ensures.disk seen
     (behind_fixed g.D.PageDisk.tells g.D.PageDisk.told g.D.PageDisk.space_pages o old.config old.instance old.history old.disk s c.args.by c.args.page f clock c.args.now c.visit.result before)
+
+pub returns-clause-settled : goal.returns-clause-settled
+returns-clause-settled g c =
+    let old = c.args.self.now.state in
+    let f = c.args.frame in
+    let s = g.F.Frames.seen c.args.frames.now in
+    let t = g.F.Frames.seen c.append.new.frames in
+    let e = next_entry old c.args.by (kind.Fix c.args.page f c.clock-clock.result c.args.now) in
+    let seen : t ≡ appended (visiting s f c.visit.result) e =
+    granted s (g.F.Frames.seen c.visit.new.self) t f c.visit.result e c.requires.tied.none_owed c.visit.ensures.seen c.append.ensures.seen in
+    settled_held s.rows t.rows f (ap (λ (x : FramesSeen). x.rows) seen) c.requires.settled
+
+pub returns-clause-more : goal.returns-clause-more
+returns-clause-more g c = one_more c.args.self.now.state c.append.new.self.state c.args.by (kind.Fix c.args.page c.args.frame c.clock-clock.result c.args.now) (λ x. tt) (λ n. refl) (λ m. tt) c.append.ensures.appended
+
+pub returns-clause-left : goal.returns-clause-left
+returns-clause-left g c =
+    let P = g.D.PageDisk in
+    let old = c.args.self.now.state in
+    leaves_more P.page_size P.tells P.space_pages P.fault_count old old c.append.new.self.state (leaves_none P.page_size P.tells P.space_pages P.fault_count old)
+    c.append.ensures.appended.config c.append.ensures.appended.instance c.append.ensures.disk

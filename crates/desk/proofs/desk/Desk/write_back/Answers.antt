@@ -48,7 +48,7 @@ returns-in-Ok-clause-logged g c = λ before.
     let grown : c.append.new.self.state.history ≡ next_entry desk c.args.by k ∷ desk.history =
     grown_mid desk c.write_out.new.self.state c.append.new.self.state c.write_out.new.self.state.disk c.args.by k still c.append.ensures.appended in
     subst (λ (h : List Entry). IsLogged c.write_out.new.redo.seen h) (sym grown)
-    (c.in-Ok.ensures.ok.1, logged_later c.args.redo.now.seen c.write_out.new.redo.seen desk.history c.write_out.ensures.later before)
+    (omega (arith, c.in-Ok.ensures.ok.1), logged_later c.args.redo.now.seen c.write_out.new.redo.seen desk.history c.write_out.ensures.later before)
 
 pub returns-in-Err-clause-logged : goal.returns-in-Err-clause-logged
 returns-in-Err-clause-logged g c = λ before.

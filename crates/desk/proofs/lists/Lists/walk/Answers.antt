@@ -1,6 +1,7 @@
 use Rattle.std.proofs.Common.{◌≡◌, ◌∙◌, Some, ap, subst, sym, reverse, IfSome}
 use Rattle.page_ids.specs.declared.ids.PageId.{PageId}
 use Rattle.trail.specs.History.{home}
+use Rattle.trail.specs.Victim.{from_the_tail}
 use Rattle.desk.specs.Ledger.{Ledger}
 use Rattle.desk.specs.Walk.{next_home}
 use Rattle.desk.proofs.ListsWalk.{has_all, walk_is}
@@ -15,5 +16,6 @@ walk-requires c =
 pub returns : goal.returns
 returns c =
     let s = c.self.inside in
-    c.walk.ensures.next ∙ walk_is s.config (reverse s.history.items) _ s.tenants.items s.lru c.self.invariant.homed c.self.invariant.ordered c.args.after
-    ∙ ap (λ (l : Ledger). next_home l.config l.history c.args.after) c.self.view_is
+    let there = subst (λ (l : Ledger). IfSome c.args.after (λ f. (p : PageId) × (home l.history p ≡ Some f))) (sym c.self.view_is) c.requires.listed in
+    c.walk.ensures.next ∙ walk_is s.config (reverse s.history.items) _ s.tenants.items s.lru c.self.invariant.homed c.self.invariant.ordered c.args.after there
+    ∙ ap (λ (l : Ledger). next_home l.history c.args.after (from_the_tail l.config l.history)) c.self.view_is

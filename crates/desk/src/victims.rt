@@ -1,0 +1,482 @@
+//! How a frame is had for a page that is not resident: a free one, or that of a victim (buf0lru's `buf_LRU_get_free_block`).
+ghost use Rattle.std.specs.Prelude.{List, ◌≡◌, ◌<◌, ◌≤◌, ◌+◌, ◌^◌, ◌++◌, [], ◌∷◌, ℕ, true, false, Some, None, Option, OnOk, OnErr, IfOk, IfErr, IfSome, IfNone, IsSome, MatchResult, Contains, IsPermutation, length, filter, slice_set};
+ghost use Rattle.std.specs.List.Sorted.{IsNonDecreasingBy};
+ghost use Rattle.page_ids.specs.Content.{Content};
+ghost use Rattle.page_ids.specs.FrameWord.{fixes_of};
+ghost use Rattle.page_ids.specs.Same.{same_page};
+ghost use Rattle.page_ids.specs.declared.ids.PageId.{PageId};
+ghost use Rattle.page_ids.specs.declared.frame_word.Word.{Word};
+ghost use Rattle.page_disk.specs.Disks.{IsOtherwiseSame, Fades};
+ghost use Rattle.redo_mark.specs.Logs.{Seen};
+ghost use Rattle.trail.specs.History.{home, change};
+ghost use Rattle.trail.specs.Book.{book, next_frame};
+ghost use Rattle.trail.specs.Dirt.{dirty, dirt_of, is_dirty, log_end};
+ghost use Rattle.trail.specs.Victim.{walk, IsSought, AreAllFixed};
+ghost use Rattle.trail.specs.declared.event.Dirty.{Dirty};
+ghost use Rattle.trail.specs.declared.event.Entry.{Entry};
+ghost use Rattle.frame_words.specs.Appends.{appended};
+ghost use Rattle.frame_words.specs.Conditions.{IsFree, IsSteady, AreFound};
+ghost use Rattle.frame_words.specs.Rows.{published_row};
+ghost use Rattle.frame_words.specs.Seen.{FramesSeen, row_at, Finds, KeepsRoom};
+ghost use Rattle.desk.specs.Base.{Opened};
+ghost use Rattle.desk.specs.Behind.{IsBehind};
+ghost use Rattle.desk.specs.Changes.{IsImageTold, IsWriteFault, LeavesDesk};
+ghost use Rattle.desk.specs.Claimed.{HasLooked, IsTaken, ArePassedBy, StopsAt, AreTiedBut, KeepsLog, Leaves, HasFrame, test_of, part_of, cause_of, refusal_of};
+ghost use Rattle.desk.specs.Fixing.{IsUnlogged};
+ghost use Rattle.desk.specs.Ledger.{IsVacant};
+ghost use Rattle.desk.specs.Logged.{IsLogged, AreUpTo};
+ghost use Rattle.desk.specs.State.{State};
+ghost use Rattle.desk.specs.Steps.{IsAppended, IsRefusedFix, next_entry};
+ghost use Rattle.desk.specs.Tied.{AreTied, HasTurn, IsOwn};
+ghost use Rattle.desk.specs.Victims.{AreSettled, IsCleanedFirst, IsHad, IsUnhad, LeavesTurn};
+ghost use Rattle.desk.specs.Walk.{AreOrderly};
+
+use crate::calls::{Caller, FixErr};
+use crate::desk::Desk;
+use crate::flush::{WriteErr, write_page};
+use frame_words::Frames;
+use page_disk::PageDisk;
+use page_ids::{OutOfMemory, PageId, Word, Words};
+use redo_mark::{Redo, RedoDisk};
+use trail::{Call, Cause, Kind};
+
+/// A page whose frame was claimed, and the modify clock that the frame has.
+#[derive(Clone, Copy, Debug)]
+pub(crate) struct Victim {
+    page: PageId,
+    frame: u32,
+    clock: u64,
+}
+
+impl<D: PageDisk> Desk<D> {
+    /// Claims the frame, where its page is dirty or clean as asked. A word with fixes is kept with its frame.
+    fn try_frame<F: Frames>(
+        &self,
+        frames: &mut F,
+        passed: &mut Vec<(u32, Word)>,
+        frame: u32,
+        soiled: bool,
+    ) -> Result<Option<Victim>, OutOfMemory>
+        requires tied { AreTied D.tells D.told D.space_pages (F.seen frames.old) self.now.state }
+        requires housed { (p : PageId) × (home self.now.state.history p ≡ Some frame) }
+        requires below { frame < self.now.state.config.frames }
+        requires alone { (p q : PageId) → home self.now.state.history p ≡ Some frame → home self.now.state.history q ≡ Some frame → q ≡ p }
+        ensures looked { MatchResult result (λ found. IfNone found (HasLooked (F.seen frames.old) (F.seen frames.new)))
+            (λ _. HasLooked (F.seen frames.old) (F.seen frames.new)) }
+        ensures passed { IfOk result (λ found. IfNone found ((p : PageId) (pages : List PageId) → home self.now.state.history p ≡ Some frame
+            → ArePassedBy self.now.state.history (F.seen frames.old).rows (F.seen frames.old).found pages passed.old.items
+            → ArePassedBy self.now.state.history (F.seen frames.old).rows (F.seen frames.new).found
+            (pages ++ filter (test_of self.now.state.history soiled) (p ∷ [])) passed.new.items)) }
+        ensures taken { IfOk result (λ found. IfSome found (λ v. (v.frame ≡ frame) × (test_of self.now.state.history soiled v.page ≡ true)
+            × IsTaken (F.seen frames.old) (F.seen frames.new) self.now.state.history v.page v.frame v.clock × (passed.new.items ≡ passed.old.items))) }
+        ensures fixes { KeepsRoom (F.room frames.old) (F.room frames.new) }
+    {
+        let page = self.lists.page_in(frame);
+        if self.lists.is_dirty(page) != soiled {
+            return Ok(None);
+        }
+        match claim_at(frames, frame) {
+            Ok(clock) => Ok(Some(Victim { page, frame, clock })),
+            Err(word) => {
+                passed.push((frame, word))?;
+                Ok(None)
+            }
+        }
+    }
+
+    /// Claims the frame of the first dirty or clean page from the LRU tail that has no fixes, and keeps the words of those before it.
+    fn pass<F: Frames>(
+        &self,
+        frames: &mut F,
+        passed: &mut Vec<(u32, Word)>,
+        soiled: bool,
+    ) -> Result<Option<Victim>, OutOfMemory>
+        requires tied { AreTied D.tells D.told D.space_pages (F.seen frames.old) self.now.state }
+        requires orderly { AreOrderly self.now.state.config self.now.state.history }
+        ensures looked { MatchResult result (λ found. IfNone found (HasLooked (F.seen frames.old) (F.seen frames.new)))
+            (λ _. HasLooked (F.seen frames.old) (F.seen frames.new)) }
+        ensures passed { IfOk result (λ found. IfNone found ((pages : List PageId)
+            → ArePassedBy self.now.state.history (F.seen frames.old).rows (F.seen frames.old).found pages passed.old.items
+            → ArePassedBy self.now.state.history (F.seen frames.old).rows (F.seen frames.new).found
+            (pages ++ part_of self.now.state.config self.now.state.history soiled) passed.new.items)) }
+        ensures stops { IfOk result (λ found. IfSome found (λ v. (pages : List PageId)
+            → ArePassedBy self.now.state.history (F.seen frames.old).rows (F.seen frames.old).found pages passed.old.items
+            → StopsAt self.now.state.history (F.seen frames.old).rows (F.seen frames.new).found
+            (pages ++ part_of self.now.state.config self.now.state.history soiled) v.page passed.new.items)) }
+        ensures taken { IfOk result (λ found. IfSome found (λ v.
+            IsTaken (F.seen frames.old) (F.seen frames.new) self.now.state.history v.page v.frame v.clock)) }
+        ensures fixes { KeepsRoom (F.room frames.old) (F.room frames.new) }
+    {
+        let mut at = self.lists.walk(None);
+        while let Some(frame) = at {
+            match self.try_frame(frames, passed, frame, soiled) {
+                Ok(None) => (),
+                Ok(Some(victim)) => return Ok(Some(victim)),
+                Err(error) => return Err(error),
+            }
+            at = self.lists.walk(Some(frame));
+        }
+        Ok(None)
+    }
+
+    /// Claims the frame of a victim: the first page without fixes, among the clean ones from the LRU tail and then among the dirty ones.
+    fn seek<F: Frames>(
+        &self,
+        frames: &mut F,
+        passed: &mut Vec<(u32, Word)>,
+    ) -> Result<Option<Victim>, OutOfMemory>
+        requires tied { AreTied D.tells D.told D.space_pages (F.seen frames.old) self.now.state }
+        requires orderly { AreOrderly self.now.state.config self.now.state.history }
+        requires empty { passed.old.items ≡ [] }
+        ensures looked { MatchResult result (λ found. IfNone found (HasLooked (F.seen frames.old) (F.seen frames.new)))
+            (λ _. HasLooked (F.seen frames.old) (F.seen frames.new)) }
+        ensures passed { IfOk result (λ found. IfNone found (ArePassedBy self.now.state.history (F.seen frames.old).rows (F.seen frames.new).found
+            (walk self.now.state.config self.now.state.history) passed.new.items)) }
+        ensures stops { IfOk result (λ found. IfSome found (λ v. StopsAt self.now.state.history (F.seen frames.old).rows (F.seen frames.new).found
+            (walk self.now.state.config self.now.state.history) v.page passed.new.items)) }
+        ensures taken { IfOk result (λ found. IfSome found (λ v.
+            IsTaken (F.seen frames.old) (F.seen frames.new) self.now.state.history v.page v.frame v.clock)) }
+        ensures fixes { KeepsRoom (F.room frames.old) (F.room frames.new) }
+    {
+        match self.pass(frames, passed, false) {
+            Ok(None) => self.pass(frames, passed, true),
+            Ok(Some(victim)) => Ok(Some(victim)),
+            Err(error) => Err(error),
+        }
+    }
+
+    /// Writes the page of a frame that is claimed behind its log, and answers its LSN and up to where the log was durable. The frame keeps
+    /// its image.
+    fn write_claimed<F: Frames, R: RedoDisk>(
+        &mut self,
+        frames: &mut F,
+        redo: &mut Redo<R>,
+        victim: Victim,
+    ) -> Result<(u64, u64), WriteErr>
+        requires but { AreTiedBut D.tells D.told D.space_pages (F.seen frames.old) self.old.state victim.page victim.frame }
+        requires dirty { is_dirty self.old.state.history victim.page ≡ true }
+        requires logged { (d : Dirty) → dirt_of (dirty self.old.state.history) victim.page ≡ Some d → d.newest ≤ redo.old.seen.end }
+        ensures seen { F.seen frames.new ≡ F.seen frames.old }
+        ensures fixes { KeepsRoom (F.room frames.old) (F.room frames.new) }
+        ensures kept { self.new ≡ record self.old { state = record self.old.state { disk = self.new.state.disk } } }
+        ensures lsn { IfOk result (λ w. (d : Dirty) × (dirt_of (dirty self.old.state.history) victim.page ≡ Some d)
+            × (w.0 ≡ d.newest) × (d.newest ≤ w.1) × (w.1 ≡ redo.new.seen.durable)) }
+        ensures written { OnOk result ((content : Content) → (row_at (F.seen frames.old) victim.frame).image ≡ Some (Some content)
+            → IsImageTold D.tells D.told victim.page content self.old.state.disk self.new.state.disk) }
+        ensures failed { OnErr result (Fades (D.told self.old.state.disk victim.page) (D.told self.new.state.disk victim.page)) }
+        ensures others { IsOtherwiseSame D.page_size D.tells D.told D.space_pages D.fault_count victim.page self.old.state.disk self.new.state.disk }
+        ensures fault { IfErr result (λ e. IsWriteFault (D.fault_count self.old.state.disk) (D.fault_count self.new.state.disk)
+            redo.old.seen.faults redo.new.seen.faults e) }
+        ensures log { KeepsLog R.told redo.old redo.new self.old.state.history self.new.state.history }
+    {
+        let Victim { page, frame, .. } = victim;
+        let image = frames.lift(frame);
+        let lsn = image.lsn();
+        let written = write_page(&mut self.disk, redo, page, &image, &mut self.buffer);
+        frames.lay(frame, image);
+        match written {
+            Ok(upto) => Ok((lsn, upto)),
+            Err(error) => Err(error),
+        }
+    }
+
+    /// Writes the page of a frame that is claimed, where it is dirty. After a fault it is as dirty as it was.
+    fn clean_first<F: Frames, R: RedoDisk>(
+        &mut self,
+        frames: &mut F,
+        redo: &mut Redo<R>,
+        by: Caller,
+        victim: Victim,
+    ) -> Result<(), WriteErr>
+        requires places { self.old.state.config.first + length self.old.state.history + 1 < 2 ^ 48 }
+        requires room { 0 < self.old.room }
+        requires but { AreTiedBut D.tells D.told D.space_pages (F.seen frames.old) self.old.state victim.page victim.frame }
+        requires turn { HasTurn (F.seen frames.old) by }
+        requires logged { (d : Dirty) → dirt_of (dirty self.old.state.history) victim.page ≡ Some d → d.newest ≤ redo.old.seen.end }
+        ensures cleaned { OnOk result (IsCleanedFirst self.old.state.config.first by victim.page self.old.state.history self.new.state.history) }
+        ensures clean { OnOk result (is_dirty self.new.state.history victim.page ≡ false) }
+        ensures failed { OnErr result (self.new ≡ record self.old { state = record self.old.state { disk = self.new.state.disk } }) }
+        ensures soiled { OnErr result (is_dirty self.old.state.history victim.page ≡ true) }
+        ensures fault { IfErr result (λ e. IsWriteFault (D.fault_count self.old.state.disk) (D.fault_count self.new.state.disk)
+            redo.old.seen.faults redo.new.seen.faults e) }
+        ensures but { AreTiedBut D.tells D.told D.space_pages (F.seen frames.new) self.new.state victim.page victim.frame }
+        ensures rows { (F.seen frames.new).rows ≡ (F.seen frames.old).rows }
+        ensures found { (F.seen frames.new).found ≡ (F.seen frames.old).found }
+        ensures turn { LeavesTurn (F.seen frames.old) (F.seen frames.new) }
+        ensures room { self.old.room ≤ self.new.room + 1 }
+        ensures desk { LeavesDesk D.page_size D.tells D.space_pages D.fault_count self.old.state self.new.state }
+        ensures others { (q : PageId) → same_page victim.page q ≡ false → D.told self.new.state.disk q ≡ D.told self.old.state.disk q }
+        ensures log { KeepsLog R.told redo.old redo.new self.old.state.history self.new.state.history }
+        ensures fixes { KeepsRoom (F.room frames.old) (F.room frames.new) }
+        ensures behind { (o : Opened) → IsBehind D.tells D.told D.space_pages o self.old.state (F.seen frames.old)
+            → IsBehind D.tells D.told D.space_pages o self.new.state (F.seen frames.new) }
+        ensures stands { OnErr result ((o : Opened) (s : FramesSeen) → IsBehind D.tells D.told D.space_pages o self.old.state s
+            → IsBehind D.tells D.told D.space_pages o self.new.state s) }
+    {
+        let page = victim.page;
+        let soiled = self.lists.is_dirty(page);
+        if !soiled {
+            return Ok(());
+        }
+        match self.write_claimed(frames, redo, victim) {
+            Ok((lsn, upto)) => {
+                self.append(frames, by, Kind::Write { page, lsn, upto });
+                Ok(())
+            }
+            Err(fault) => Err(fault),
+        }
+    }
+
+    /// Appends that a page, which is clean, has left its frame. The frame stays claimed.
+    fn let_go<F: Frames>(&mut self, frames: &mut F, by: Caller, victim: Victim, passed: Words)
+        requires places { self.old.state.config.first + length self.old.state.history + 1 < 2 ^ 48 }
+        requires room { 0 < self.old.room }
+        requires but { AreTiedBut D.tells D.told D.space_pages (F.seen frames.old) self.old.state victim.page victim.frame }
+        requires clean { is_dirty self.old.state.history victim.page ≡ false }
+        requires turn { HasTurn (F.seen frames.old) by }
+        requires found { IfSome (F.seen frames.old).found (λ now. AreFound now passed) }
+        ensures appended { IsAppended self.old.state self.new.state by (Kind.Evict victim.page victim.frame passed) }
+        ensures disk { self.new.state.disk ≡ self.old.state.disk }
+        ensures rows { (F.seen frames.new).rows ≡ (F.seen frames.old).rows }
+        ensures next { next_frame (book self.new.state.config self.new.state.history) ≡ Some victim.frame }
+        ensures vacant { IsVacant self.new.state.history victim.frame }
+        ensures turn { LeavesTurn (F.seen frames.old) (F.seen frames.new) }
+        ensures room { self.old.room ≤ self.new.room + 1 }
+        ensures tied { AreTied D.tells D.told D.space_pages (F.seen frames.new) self.new.state }
+        ensures fixes { KeepsRoom (F.room frames.old) (F.room frames.new) }
+        ensures behind { (o : Opened) → IsBehind D.tells D.told D.space_pages o self.old.state (F.seen frames.old)
+            → IsBehind D.tells D.told D.space_pages o self.new.state (F.seen frames.new) }
+    {
+        let Victim { page, frame, .. } = victim;
+        self.append(
+            frames,
+            by,
+            Kind::Evict {
+                page,
+                frame,
+                passed,
+            },
+        );
+    }
+
+    /// Gives a claimed frame back to its page, which could not be written, and appends the refusal of the fix.
+    fn put_back<F: Frames>(
+        &mut self,
+        frames: &mut F,
+        by: Caller,
+        page: PageId,
+        now: u64,
+        victim: Victim,
+        error: WriteErr,
+    ) -> FixErr
+        requires places { self.old.state.config.first + length self.old.state.history + 1 < 2 ^ 48 }
+        requires room { 0 < self.old.room }
+        requires but { AreTiedBut D.tells D.told D.space_pages (F.seen frames.old) self.old.state victim.page victim.frame }
+        requires clock { (victim.clock ≡ (row_at (F.seen frames.old) victim.frame).clock) × (victim.clock < 2 ^ 48) }
+        requires turn { HasTurn (F.seen frames.old) by }
+        requires own { IsOwn (F.seen frames.old) self.old.state page }
+        requires few { IfSome (F.seen frames.old).opened (λ opened. length opened < 64) }
+        ensures refused { result ≡ refusal_of error }
+        ensures appended { IsRefusedFix self.old.state self.new.state by page now (cause_of error) }
+        ensures disk { self.new.state.disk ≡ self.old.state.disk }
+        ensures rows { (F.seen frames.new).rows ≡ slice_set (F.seen frames.old).rows victim.frame
+            (published_row (row_at (F.seen frames.old) victim.frame) victim.page victim.clock) }
+        ensures base { (F.seen frames.new).base ≡ (F.seen frames.old).base }
+        ensures tied { AreTied D.tells D.told D.space_pages (F.seen frames.new) self.new.state }
+        ensures fixes { KeepsRoom (F.room frames.old) (F.room frames.new) }
+        ensures stands { (o : Opened) (s : FramesSeen) → IsBehind D.tells D.told D.space_pages o self.old.state s
+            → IsBehind D.tells D.told D.space_pages o self.new.state s }
+    {
+        let (cause, refusal) = causes_of(error);
+        frames.publish(victim.frame, victim.page, victim.clock);
+        let call = Call::Fix { page, now };
+        self.append(frames, by, Kind::Refused { call, cause });
+        refusal
+    }
+
+    /// Appends the refusal of a fix for which every frame was found with a fix.
+    fn refuse_full<F: Frames>(
+        &mut self,
+        frames: &mut F,
+        by: Caller,
+        page: PageId,
+        now: u64,
+        passed: Vec<(u32, Word)>,
+    ) -> FixErr
+        requires places { self.old.state.config.first + length self.old.state.history + 1 < 2 ^ 48 }
+        requires room { 0 < self.old.room }
+        requires tied { AreTied D.tells D.told D.space_pages (F.seen frames.old) self.old.state }
+        requires turn { HasTurn (F.seen frames.old) by }
+        requires own { IsOwn (F.seen frames.old) self.old.state page }
+        requires few { IfSome (F.seen frames.old).opened (λ opened. length opened < 64) }
+        requires orderly { AreOrderly self.old.state.config self.old.state.history }
+        requires none_free { next_frame (book self.old.state.config self.old.state.history) ≡ None }
+        requires full { (f : ℕ) → f < self.old.state.config.frames → (p : PageId) × (home self.old.state.history p ≡ Some f) }
+        requires absent { home self.old.state.history page ≡ None }
+        requires passed { ArePassedBy self.old.state.history (F.seen frames.old).rows (F.seen frames.old).found
+            (walk self.old.state.config self.old.state.history) passed.items }
+        ensures refused { (disk_was disk_is log_was log_is : ℕ) → IsUnhad self.old.state self.new.state (F.seen frames.old).rows by page now
+            disk_was disk_is log_was log_is result }
+        ensures rows { (F.seen frames.new).rows ≡ (F.seen frames.old).rows }
+        ensures disk { self.new.state.disk ≡ self.old.state.disk }
+        ensures absent { home self.new.state.history page ≡ None }
+        ensures count { length self.new.state.history ≤ length self.old.state.history + 1 }
+        ensures logged { (log : Seen) → IsLogged log self.old.state.history → IsLogged log self.new.state.history }
+        ensures ends { log_end self.new.state.history ≡ log_end self.old.state.history }
+        ensures upto { (mark : ℕ) (h : List Entry) → AreUpTo mark h self.old.state.history → AreUpTo mark h self.new.state.history }
+        ensures tied { AreTied D.tells D.told D.space_pages (F.seen frames.new) self.new.state }
+        ensures desk { LeavesDesk D.page_size D.tells D.space_pages D.fault_count self.old.state self.new.state }
+        ensures fixes { KeepsRoom (F.room frames.old) (F.room frames.new) }
+        ensures behind { (o : Opened) → IsBehind D.tells D.told D.space_pages o self.old.state (F.seen frames.old)
+            → IsBehind D.tells D.told D.space_pages o self.new.state (F.seen frames.new) }
+    {
+        let alloc = self.lists.allocator();
+        let words = in_order(passed);
+        let Ok(answer) = Vec::from_slice(alloc, words.as_slice()) else {
+            return FixErr::OutOfMemory;
+        };
+        let call = Call::Fix { page, now };
+        let seen = Words::of(words);
+        let cause = Cause::AllFixed { seen };
+        self.append(frames, by, Kind::Refused { call, cause });
+        let seen = Words::of(answer);
+        FixErr::AllFixed { seen }
+    }
+
+    /// Evicts a victim, which is written first where it is dirty, and answers its frame.
+    fn evict<F: Frames, R: RedoDisk>(
+        &mut self,
+        frames: &mut F,
+        redo: &mut Redo<R>,
+        by: Caller,
+        page: PageId,
+        now: u64,
+    ) -> Result<u32, FixErr>
+        requires places { self.old.state.config.first + length self.old.state.history + 2 < 2 ^ 48 }
+        requires room { 2 ≤ self.old.room }
+        requires tied { AreTied D.tells D.told D.space_pages (F.seen frames.old) self.old.state }
+        requires settled { AreSettled (F.seen frames.old).rows }
+        requires turn { HasTurn (F.seen frames.old) by }
+        requires own { IsOwn (F.seen frames.old) self.old.state page }
+        requires few { IfSome (F.seen frames.old).opened (λ opened. length opened < 64) }
+        requires absent { home self.old.state.history page ≡ None }
+        requires known { log_end self.old.state.history ≤ redo.old.seen.end }
+        requires orderly { AreOrderly self.old.state.config self.old.state.history }
+        requires none_free { next_frame (book self.old.state.config self.old.state.history) ≡ None }
+        requires full { (f : ℕ) → f < self.old.state.config.frames → (p : PageId) × (home self.old.state.history p ≡ Some f) }
+        ensures had { IfOk result (λ frame. HasFrame self.old self.new (F.seen frames.old) (F.seen frames.new) by frame) }
+        ensures refused { IfErr result (λ e. IsUnhad self.old.state self.new.state (F.seen frames.old).rows by page now
+            (D.fault_count self.old.state.disk) (D.fault_count self.new.state.disk) redo.old.seen.faults redo.new.seen.faults e) }
+        ensures unmoved { OnErr result ((F.seen frames.new).rows ≡ (F.seen frames.old).rows) }
+        ensures unlogged { IfErr result (λ e. IsUnlogged redo.old redo.new e) }
+        ensures leaves { Leaves D.page_size D.tells D.told D.space_pages D.fault_count R.told page self.old.state self.new.state
+            (F.seen frames.old) (F.seen frames.new) redo.old redo.new }
+        ensures fixes { KeepsRoom (F.room frames.old) (F.room frames.new) }
+    {
+        let mut passed = Vec::new(self.lists.allocator());
+        let victim = match self.seek(frames, &mut passed) {
+            Ok(Some(victim)) => victim,
+            Ok(None) => return Err(self.refuse_full(frames, by, page, now, passed)),
+            Err(_) => return Err(FixErr::OutOfMemory),
+        };
+        match self.clean_first(frames, redo, by, victim) {
+            Ok(()) => {
+                self.let_go(frames, by, victim, Words::of(in_order(passed)));
+                Ok(victim.frame)
+            }
+            Err(error) => Err(self.put_back(frames, by, page, now, victim, error)),
+        }
+    }
+
+    /// A frame for a page that is not resident: the next free one, or that of a victim, which is written first where it is dirty.
+    ///
+    /// Appends the entries `write` and `evict` of the victim, or the refusal of the fix. Memory is taken before anything changes; want of
+    /// memory changes nothing. A page that could not be written stays where it is, and is as dirty as it was.
+    pub(crate) fn have_frame<F: Frames, R: RedoDisk>(
+        &mut self,
+        frames: &mut F,
+        redo: &mut Redo<R>,
+        by: Caller,
+        page: PageId,
+        now: u64,
+    ) -> Result<u32, FixErr>
+        requires places { self.old.state.config.first + length self.old.state.history + 2 < 2 ^ 48 }
+        requires room { 2 ≤ self.old.room }
+        requires tied { AreTied D.tells D.told D.space_pages (F.seen frames.old) self.old.state }
+        requires settled { AreSettled (F.seen frames.old).rows }
+        requires turn { HasTurn (F.seen frames.old) by }
+        requires own { IsOwn (F.seen frames.old) self.old.state page }
+        requires few { IfSome (F.seen frames.old).opened (λ opened. length opened < 64) }
+        requires absent { home self.old.state.history page ≡ None }
+        requires known { log_end self.old.state.history ≤ redo.old.seen.end }
+        ensures had { IfOk result (λ frame. IsHad self.old.state self.new.state (F.seen frames.old).rows (F.seen frames.new).rows by frame) }
+        ensures next { IfOk result (λ frame. next_frame (book self.new.state.config self.new.state.history) ≡ Some frame) }
+        ensures below { IfOk result (λ frame. frame < self.new.state.config.frames) }
+        ensures vacant { IfOk result (λ frame. IsVacant self.new.state.history frame) }
+        ensures absent { home self.new.state.history page ≡ None }
+        ensures turn { IfOk result (λ frame. LeavesTurn (F.seen frames.old) (F.seen frames.new)) }
+        ensures room { IfOk result (λ frame. self.old.room ≤ self.new.room + 2) }
+        ensures count { length self.new.state.history ≤ length self.old.state.history + 2 }
+        ensures refused { IfErr result (λ e. IsUnhad self.old.state self.new.state (F.seen frames.old).rows by page now
+            (D.fault_count self.old.state.disk) (D.fault_count self.new.state.disk) redo.old.seen.faults redo.new.seen.faults e) }
+        ensures unmoved { OnErr result ((F.seen frames.new).rows ≡ (F.seen frames.old).rows) }
+        ensures free { IsSome (next_frame (book self.old.state.config self.old.state.history)) → redo.new ≡ redo.old }
+        ensures unlogged { IfErr result (λ e. IsUnlogged redo.old redo.new e) }
+        ensures tied { AreTied D.tells D.told D.space_pages (F.seen frames.new) self.new.state }
+        ensures settled { AreSettled (F.seen frames.new).rows }
+        ensures page_told { D.told self.new.state.disk page ≡ D.told self.old.state.disk page }
+        ensures desk { LeavesDesk D.page_size D.tells D.space_pages D.fault_count self.old.state self.new.state }
+        ensures log { KeepsLog R.told redo.old redo.new self.old.state.history self.new.state.history }
+        ensures fixes { KeepsRoom (F.room frames.old) (F.room frames.new) }
+        ensures behind { (o : Opened) → IsBehind D.tells D.told D.space_pages o self.old.state (F.seen frames.old)
+            → IsBehind D.tells D.told D.space_pages o self.new.state (F.seen frames.new) }
+    {
+        match self.lists.next_frame() {
+            Some(frame) => Ok(frame),
+            None => self.evict(frames, redo, by, page, now),
+        }
+    }
+}
+
+/// Claims a page's frame, and answers its modify clock, which it keeps.
+fn claim_at<F: Frames>(frames: &mut F, frame: u32) -> Result<u64, Word>
+    requires free { IsFree (F.seen frames.old) frame }
+    requires steady { IsSteady (F.seen frames.old) frame }
+    requires resident { (row_at (F.seen frames.old) frame).resident ≡ true }
+    ensures ok { (h : List Entry) (p : PageId) → home h p ≡ Some frame
+        → IfOk result (λ clock. IsTaken (F.seen frames.old) (F.seen frames.new) h p frame clock) }
+    ensures err { IfErr result (λ word. Finds (F.seen frames.old) frame word × (0 < fixes_of word)
+        × HasLooked (F.seen frames.old) (F.seen frames.new) × IfSome (F.seen frames.new).found (λ now. Contains now (frame, word))) }
+    ensures fixes { KeepsRoom (F.room frames.old) (F.room frames.new) }
+{
+    let clock = frames.look(frame).clock();
+    match frames.claim(frame) {
+        Ok(()) => Ok(clock),
+        Err(word) => Err(word),
+    }
+}
+
+/// The words in rising order of frame.
+fn in_order(mut words: Vec<(u32, Word)>) -> Vec<(u32, Word)>
+    ensures same { IsPermutation words.items result.items }
+    ensures rising { IsNonDecreasingBy (λ x. x.0) result.items }
+{
+    words.sort_unstable_by_key(|word| word.0);
+    words
+}
+
+/// What is told of a page that could not be written, in the history and in the answer.
+fn causes_of(error: WriteErr) -> (Cause, FixErr)
+    ensures { (result.0 ≡ cause_of error) × (result.1 ≡ refusal_of error) }
+{
+    match error {
+        WriteErr::RedoFault { before, after } => (
+            Cause::RedoFault { before, after },
+            FixErr::RedoFault { before, after },
+        ),
+        WriteErr::DiskFault { before, after } => (
+            Cause::DiskFault { before, after },
+            FixErr::DiskFault { before, after },
+        ),
+    }
+}

@@ -1,0 +1,4 @@
+pub mod Nodes
+pub mod Places
+pub mod Order
+pub mod Views
