@@ -451,6 +451,9 @@ bad_lines() {
     bad_line 'an LSN twice' 2 $'lsn 1\nlsn 1\n'
     bad_line 'an LSN behind the thread' 6 "$thread"$'lsn 1\n'
     bad_line 'an unknown command' 6 "$thread"$'fetch 0:0\n'
+    bad_line 'a command that is not built yet' 6 "$thread"$'resize 8192 1\n'
+    bad_line 'a create without a moment' 6 "$thread"$'create 0:0\n'
+    bad_line 'a create past 64 bits' 6 "$thread"$'create 0:0 18446744073709551616\n'
     bad_line 'a leading zero' 6 "$thread"$'fix 0:00 1\n'
     bad_line 'a sign' 6 "$thread"$'fix 0:0 +1\n'
     bad_line 'a space number past 32 bits' 6 "$thread"$'fix 4294967296:0 1\n'
@@ -494,6 +497,7 @@ R 3 1.4 unfixed 0:1 0 1
 E 4 0.1 write 0:1 8215 8215
 E 5 0.1 clean 1 -
 ' ''
+    made_page "$(cat "$top/examples/creates.pool")" 'examples/creates.pool'
     blank_files
     run "$(cat "$top/examples/victims.pool")"
     hex want/log 0 '01 00000000 00000000 0026 0001 01 0000000000002016'
@@ -525,6 +529,66 @@ R 16 1.12 unfixed 0:3 3 7
 R 16 1.13 unfixed 0:2 2 6
 E 17 0.1 clean 0 -
 ' ''
+}
+
+# made_page SCRIPT NAME: page 2 is made, and written by a clean; both what the script says and what it leaves.
+made_page() {
+    blank_files
+    run "$1"
+    hex want/log 0 '02 00000000 00000002 0000 0000 0000000000002015'
+    stamp want/space 4096 00000000 2 0000000000002015
+    expect "$2" 1 \
+$'trail 0 7 2
+E 1 1.1 create 0:2 0 8192 8213 1
+E 2 1.2 checkpoint 8192
+E 3 1.3 write 0:2 8213 8213
+E 4 1.3 clean 1 -
+E 5 1.4 checkpoint 8213
+E 6 1.5 refused create 0:2 1 Resident 0
+R 6 1.6 refused put 0:1 38 01 Unheld
+R 6 1.7 unfixed 0:2 0 1
+E 7 0.1 clean 0 -
+' ''
+}
+
+# Pages that are made, whatever the tablespace has of them.
+creates() {
+    local at=$((7 * 4096))
+    made_page "$thread"$'create 0:2 1\ncheckpoint\nclean 9\ncheckpoint\ncreate 0:2 1\nput 0:1 38 01\n' 'a page is made'
+    blank_files
+    put case/space $((at + 4)) '\0\0\0\x8'
+    put case/space $((at + 100)) '\xab'
+    run "$thread"$'fix 0:7 1\ncreate 0:7 2\nclean 0\nput 0:7 38 01\n'
+    hex want/log 0 '02 00000000 00000007 0000 0000 0000000000002015'
+    hex want/log 21 '01 00000000 00000007 0026 0001 01 000000000000202b'
+    put want/space $((at + 100)) '\0'
+    stamp want/space 4096 00000000 7 000000000000202b
+    hex want/space $((at + 38)) 01
+    expect 'a page is made where there was none' 1 \
+$'trail 0 6 1
+E 1 1.1 refused fix 0:7 1 BadPage Number 8
+E 2 1.2 create 0:7 1 8192 8213 2
+E 3 1.3 clean 0 -
+E 4 1.4 put 0:7 38 01 8213 8235
+R 4 1.5 unfixed 0:7 1 2
+E 5 0.1 write 0:7 8235 8235
+E 6 0.1 clean 1 -
+' ''
+    blank_files
+    trail_is 'pages that are not there are not made' "$thread"$'create 0:64 1\ncreate 3:0 2\n' 1 \
+$'trail 0 3 0
+E 1 1.1 refused create 0:64 1 NoSuchPage 64
+E 2 1.2 refused create 3:0 2 NoSuchPage 0
+E 3 0.1 clean 0 -
+'
+    trail_is 'no LSN is left for a page' "$four_frames"$'lsn 9223372036854775807\nthread 1\ncreate 0:0 1\nfix 0:1 1\n' 1 \
+$'trail 0 4 1
+E 1 1.1 refused create 0:0 1 LogSpent 9223372036854775807
+E 2 1.2 load 0:1 1
+E 3 1.2 fix 0:1 1 2 1
+R 3 1.3 unfixed 0:1 1 2
+E 4 0.1 clean 0 -
+'
 }
 
 # Pages that take turns in the frames.
@@ -740,6 +804,7 @@ streams() {
 }
 
 examples
+creates
 victims
 trails
 pages

@@ -1,5 +1,5 @@
 -- What a step does to what is known of one page.
-use Rattle.std.proofs.Common.{◌≡◌, ℕ, zero, suc, Bool, true, false, cond, List, [], ◌∷◌, ◌<◌, ◌||◌, Option, Some, None, length, set, slice_get, refl, ap, ◌∙◌, sym, subst, arith, IfSome, IsSome, MatchOption, get_or, inl, inr, replicate}
+use Rattle.std.proofs.Common.{◌≡◌, ℕ, Bool, true, false, cond, List, [], ◌∷◌, ◌<◌, ◌||◌, Option, Some, None, length, refl, ap, ◌∙◌, sym, subst, arith, IfSome, IsSome, MatchOption, get_or, inl, inr, replicate}
 use Rattle.std.proofs.lemmas.Grind.{same_number_lists}
 use Rattle.std.specs.Option.{is_some, option_map}
 use Rattle.page_ids.specs.Content.{Content, patched}
@@ -8,7 +8,6 @@ use Rattle.page_ids.specs.Refusal.{IsBad}
 use Rattle.page_ids.specs.Same.{same_page}
 use Rattle.page_ids.specs.declared.ids.PageId.{PageId}
 use Rattle.page_ids.specs.declared.layout.BadPage.{BadPage}
-use Rattle.page_ids.specs.declared.lists.Words.{Words}
 use Rattle.page_disk.specs.Disks.{Fades}
 use Rattle.trail.specs.declared.event.Call.{Call}
 use Rattle.trail.specs.declared.event.Cause.{Cause}
@@ -36,9 +35,6 @@ fix_still p f clock now = record { homes = λ q b. refl; values = λ size q b. r
 
 pub refused_still : (c : Call) (why : Cause) → IsStill (kind.Refused c why)
 refused_still c why = record { homes = λ q b. refl; values = λ size q b. refl; writes = λ q b. refl; saves = λ q v b. refl; dirts = λ b. refl; ends = λ b. refl }
-
-pub clean_still : (n : ℕ) (skipped : Words) → IsStill (kind.Clean n skipped)
-clean_still n skipped = record { homes = λ q b. refl; values = λ size q b. refl; writes = λ q b. refl; saves = λ q v b. refl; dirts = λ b. refl; ends = λ b. refl }
 
 -- a page that was changed is dirty, and every other one is as it was
 pub dirty_here : (q p : PageId) (start end : ℕ) (ds : List Dirty) → same_page q p ≡ true → is_some (dirt_of (dirtied q start end ds) p) ≡ true
@@ -202,38 +198,6 @@ stands p opened first told w v s clean = go w refl
         let G : Option (List ℕ) → Type 0 = λ t. IsGiven t p first in
         let V : Option Content → Type 0 = λ x. IsGiven told p x in
         subst V (sym (clean.first_is is) ∙ clean.same) (subst G (was ∙ sym there.1) clean.given)
-
-pub set_here : (xs : List Content) (f : ℕ) (c : Content) → f < length xs → slice_get (set xs f c) f ≡ Some c
-set_here [] f c h = absurd (omega arith)
-set_here (x ∷ xs) zero c h = refl
-set_here (x ∷ xs) (suc f) c h = set_here xs f c (omega arith)
-
-pub set_there : (xs : List Content) (f g : ℕ) (c : Content) → (f ≡ g → ⊥) → slice_get (set xs f c) g ≡ slice_get xs g
-set_there [] f g c ne = refl
-set_there (x ∷ xs) zero zero c ne = absurd (ne refl)
-set_there (x ∷ xs) zero (suc g) c ne = refl
-set_there (x ∷ xs) (suc f) zero c ne = refl
-set_there (x ∷ xs) (suc f) (suc g) c ne = set_there xs f g c (λ e. ne (ap suc e))
-
-pub get_below : (xs : List Content) (f : ℕ) (c : Content) → slice_get xs f ≡ Some c → f < length xs
-get_below [] f c e = absurd (cc)
-get_below (x ∷ xs) zero c e = omega arith
-get_below (x ∷ xs) (suc f) c e = let l = get_below xs f c e in omega (arith, l)
-
-pub get_some : (xs : List Content) (f : ℕ) → f < length xs → IsSome (slice_get xs f)
-get_some [] f l = absurd (omega arith)
-get_some (x ∷ xs) zero l = refl
-get_some (x ∷ xs) (suc f) l = get_some xs f (omega arith)
-
--- the images after a page was read into a frame that was no home
-pub image_step : (images : List Content) (f g : ℕ) (c : Content) (b : Bool) (before : Option ℕ) (now : Option Content) → cond b (Some f) before ≡ Some g → f < length images
-    → (b ≡ true → now ≡ Some c) → (before ≡ Some f → ⊥) → (before ≡ Some g → slice_get images g ≡ now) → slice_get (set images f c) g ≡ now
-image_step images f g c true before now here inside new fresh was =
-    let same : f ≡ g = cc in
-    let P : ℕ → Type 0 = λ n. slice_get (set images f c) n ≡ Some c in
-    subst P same (set_here images f c inside) ∙ sym (new refl)
-image_step images f g c false before now here inside new fresh was =
-    set_there images f g c (λ e. fresh (here ∙ ap (λ n. Some n) (sym e))) ∙ was here
 
 -- a page that is told as before, or no longer, keeps what is known where it is told
 pub fades_keeps : (old new : Option (List ℕ)) (P : List ℕ → Type 0) → Fades old new → IfSome old P → IfSome new P

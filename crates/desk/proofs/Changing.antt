@@ -353,7 +353,7 @@ module _ {D : Type 0} (tells : D → Bool) (told : D → PageId → Option (List
   }
 
   -- an entry came that leaves homes and clocks, and makes no page dirty
-  tied_on : (s : FramesSeen) (desk : State D) (e : Entry) (d : D) (T : Option Turn) (O : Option (List Held)) (F : Option (List (ℕ × Word)))
+  pub tied_on : (s : FramesSeen) (desk : State D) (e : Entry) (d : D) (T : Option Turn) (O : Option (List Held)) (F : Option (List (ℕ × Word)))
       → (let h : List Entry = e ∷ desk.history in let s' : FramesSeen = record s { history = option_map (extended e) s.history; turn = T; opened = O; found = F } in
       ((p : PageId) → home h p ≡ home desk.history p) → ((f : ℕ) → change h f ≡ change desk.history f)
       → ((p : PageId) (x : Dirty) → dirt_of (dirty h) p ≡ Some x → dirt_of (dirty desk.history) p ≡ Some x)

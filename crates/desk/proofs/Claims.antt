@@ -1,5 +1,5 @@
 -- Frames that are tied to a desk, while a page leaves its frame.
-use Rattle.std.proofs.Common.{◌≡◌, ◌^◌, ◌<◌, ◌+◌, ℕ, Bool, true, false, cond, not, ◌&&◌, List, [], ◌∷◌, Option, Some, None, length, get_or, set, length-set, refl, ap, ◌∙◌, sym, subst, IfSome, IsSome, IsSomeAnd, arith}
+use Rattle.std.proofs.Common.{◌≡◌, ◌^◌, ◌<◌, ℕ, Bool, true, false, cond, not, ◌&&◌, List, ◌∷◌, Option, Some, None, length, get_or, set, length-set, refl, ap, ◌∙◌, sym, subst, IfSome, IsSome, IsSomeAnd, arith}
 use Rattle.std.specs.Prelude.{MatchOption}
 use Rattle.std.specs.Option.{is_some, option_map}
 use Rattle.std.proofs.lemmas.List.{get_or-set_same, get_or-set_other, set-set, set-get_or}
@@ -14,11 +14,10 @@ use Rattle.page_ids.specs.declared.frame_word.Word.{Word}
 use Rattle.page_ids.specs.declared.ids.PageId.{PageId}
 use Rattle.page_disk.specs.Disks.{Fades, IsOtherwiseSame}
 use Rattle.trail.specs.Alone.{words_told}
-use Rattle.trail.specs.declared.event.Call.TheVariants as call
+use Rattle.trail.specs.declared.event.Call.{Call}
 use Rattle.trail.specs.declared.event.Cause.{Cause}
 use Rattle.trail.specs.declared.event.Dirty.{Dirty}
 use Rattle.trail.specs.declared.event.Entry.{Entry}
-use Rattle.trail.specs.declared.event.Held.{Held}
 use Rattle.trail.specs.declared.event.Kind.{Kind}
 use Rattle.trail.specs.declared.event.Kind.TheVariants as kind
 use Rattle.trail.specs.Book.{book, next_frame}
@@ -34,7 +33,7 @@ use Rattle.desk.specs.Claimed.{HasLooked, AreTiedBut}
 use Rattle.desk.specs.State.{State}
 use Rattle.desk.specs.Steps.{IsAppended, next_entry}
 use Rattle.desk.specs.Tied.{AreTied, IsTied, OnTold, HasTurn}
-use Rattle.desk.specs.Victims.{IsSettled, LeavesTurn}
+use Rattle.desk.specs.Victims.{IsSettled}
 use Rattle.desk.specs.declared.calls.Caller.{Caller}
 use Rattle.desk.proofs.Dirt.{no_way, same_is, same_self, cleaned_of}
 use Rattle.desk.proofs.BehindParts.{refused_still}
@@ -44,10 +43,6 @@ use Rattle.desk.proofs.Values.{desk_of, entry_at, value_in, newest_lsn, behind_f
 pub some_is : {A : Type 0} (o : Option A) → IsSome o → (x : A) × (o ≡ Some x)
 some_is None is = absurd (no_way (sym is))
 some_is (Some x) is = (x, refl)
-
-pub mapped_same : {A : Type 0} (f : A → A) (o : Option A) → ((x : A) → f x ≡ x) → option_map f o ≡ o
-mapped_same f None same = refl
-mapped_same f (Some x) same = ap (λ y. Some y) (same x)
 
 mapped_some : {A : Type 0} (f : A → A) (o : Option A) → IsSome o → IsSome (option_map f o)
 mapped_some f None is = is
@@ -126,18 +121,6 @@ row_here rows f r inside = get_or-set_same rows f r new_row inside
 
 pub row_there : (rows : List Row) (f g : ℕ) (r : Row) → (g ≡ f → ⊥) → get_or (set rows f r) g new_row ≡ get_or rows g new_row
 row_there rows f g r ne = get_or-set_other rows f g r new_row ne
-
--- writes and evicts leave the turn
-pub turn_left : (s : FramesSeen) (e : Entry) → Rattle.trail.specs.Calls.kind_answers e.kind ≡ false → ((held : List Held) → Rattle.trail.specs.Calls.held_after_kind e.number e.kind held ≡ held) → LeavesTurn s (appended s e)
-turn_left s e more opens = record {
-  turn = mapped_same (Rattle.frame_words.specs.Appends.turn_after e.kind) s.turn (λ t. ap (λ (b : Bool). cond b (record t { number = t.number + 1 }) t) more);
-  opened = mapped_same (Rattle.trail.specs.Calls.held_after_kind e.number e.kind) s.opened opens;
-  history = some_mapped (extended e) s.history;
-  base = refl;
-}
-
-pub found_left : (s : FramesSeen) (e : Entry) → Rattle.trail.specs.Calls.kind_answers e.kind ≡ false → (appended s e).found ≡ s.found
-found_left s e more = mapped_same (Rattle.frame_words.specs.Appends.found_after e.kind) s.found (λ ws. ap (λ (b : Bool). cond b [] ws) more)
 
 -- a page is clean behind its write
 pub written_clean : (h : List Entry) (p : PageId) (place caller number lsn upto : ℕ) → is_dirty (entry_at place caller number (kind.Write p lsn upto) ∷ h) p ≡ false
@@ -549,9 +532,9 @@ module _ {D : Type 0} (tells : D → Bool) (told : D → PageId → Option (List
       }
 
   -- a refusal was appended
-  pub tied_refused : (s : FramesSeen) (c : Config) (n : ℕ) (h : List Entry) (d : D) (p : PageId) (now place caller number : ℕ) (why : Cause) → Tied s (desk_of c n h d)
-      → Tied (appended s (entry_at place caller number (kind.Refused (call.Fix p now) why))) (desk_of c n (entry_at place caller number (kind.Refused (call.Fix p now) why) ∷ h) d)
-  tied_refused s c n h d p now place caller number why tied = record {
+  pub tied_refused : (s : FramesSeen) (c : Config) (n : ℕ) (h : List Entry) (d : D) (asked : Call) (place caller number : ℕ) (why : Cause) → Tied s (desk_of c n h d)
+      → Tied (appended s (entry_at place caller number (kind.Refused asked why))) (desk_of c n (entry_at place caller number (kind.Refused asked why) ∷ h) d)
+  tied_refused s c n h d asked place caller number why tied = record {
     count = tied.count;
     whole = tied.whole;
     rows = λ g l. tied_row (page_bytes c.page) c.frames h (e ∷ h) (row_at s g) g refl (λ q. refl) (tied.rows g l);
@@ -563,11 +546,11 @@ module _ {D : Type 0} (tells : D → Bool) (told : D → PageId → Option (List
     shared = λ g l none. let known = tied.shared g l none in (mapped_some (extended e) s.history known.0, known.1);
     own = λ is. tied.own (some_mapped (extended e) s.history is);
     valued = valued_on s t (desk_of c n h d) (desk_of c n (e ∷ h) d) refl
-        (λ o is b. behind_frames tells told spaces o (desk_of c n (e ∷ h) d) s t refl refl (behind_quiet tells told spaces o c n h d s e (refused_still (call.Fix p now) why) b)) tied.valued;
+        (λ o is b. behind_frames tells told spaces o (desk_of c n (e ∷ h) d) s t refl refl (behind_quiet tells told spaces o c n h d s e (refused_still asked why) b)) tied.valued;
   }
     where
       e : Entry
-      e = entry_at place caller number (kind.Refused (call.Fix p now) why)
+      e = entry_at place caller number (kind.Refused asked why)
 
       t : FramesSeen
       t = appended s e
@@ -641,20 +624,20 @@ module _ {D : Type 0} (tells : D → Bool) (told : D → PageId → Option (List
       (behind_parts tells told spaces o new s old.config old.instance (e ∷ old.history) old.disk a.config a.instance a.history disk
       (behind_evict tells told spaces o old.config old.instance old.history old.disk s e.place by.pass by.number p f passed b))
 
-  pub refused_tied : (s t : FramesSeen) (old new : State D) (by : Caller) (p : PageId) (now : ℕ) (why : Cause) → Tied s old → IsAppended old new by (kind.Refused (call.Fix p now) why) → new.disk ≡ old.disk
-      → t ≡ appended s (next_entry old by (kind.Refused (call.Fix p now) why)) → Tied t new
-  refused_tied s t old new by p now why tied a disk seen =
-      let e = next_entry old by (kind.Refused (call.Fix p now) why) in
+  pub refused_tied : (s t : FramesSeen) (old new : State D) (by : Caller) (asked : Call) (why : Cause) → Tied s old → IsAppended old new by (kind.Refused asked why) → new.disk ≡ old.disk
+      → t ≡ appended s (next_entry old by (kind.Refused asked why)) → Tied t new
+  refused_tied s t old new by asked why tied a disk seen =
+      let e = next_entry old by (kind.Refused asked why) in
       subst (λ (u : FramesSeen). Tied u new) (sym seen)
       (subst (λ (x : State D). Tied (appended s e) x) (sym (desk_is new old.config old.instance (e ∷ old.history) old.disk a.config a.instance a.history disk))
-      (tied_refused s old.config old.instance old.history old.disk p now e.place by.pass by.number why tied))
+      (tied_refused s old.config old.instance old.history old.disk asked e.place by.pass by.number why tied))
 
-  pub refused_behind : (o : Opened) (s : FramesSeen) (old new : State D) (by : Caller) (p : PageId) (now : ℕ) (why : Cause) → IsAppended old new by (kind.Refused (call.Fix p now) why) → new.disk ≡ old.disk
+  pub refused_behind : (o : Opened) (s : FramesSeen) (old new : State D) (by : Caller) (asked : Call) (why : Cause) → IsAppended old new by (kind.Refused asked why) → new.disk ≡ old.disk
       → IsBehind tells told spaces o old s → IsBehind tells told spaces o new s
-  refused_behind o s old new by p now why a disk b =
-      let e = next_entry old by (kind.Refused (call.Fix p now) why) in
+  refused_behind o s old new by asked why a disk b =
+      let e = next_entry old by (kind.Refused asked why) in
       behind_parts tells told spaces o new s old.config old.instance (e ∷ old.history) old.disk a.config a.instance a.history disk
-      (behind_quiet tells told spaces o old.config old.instance old.history old.disk s e (refused_still (call.Fix p now) why) b)
+      (behind_quiet tells told spaces o old.config old.instance old.history old.disk s e (refused_still asked why) b)
 
   pub wrote_but : (size faults : D → ℕ) (s t : FramesSeen) (old mid new : State D) (by : Caller) (p : PageId) (f lsn upto : ℕ) (bytes : List ℕ) → (but : But s old p f) → mid ≡ on_disk old mid.disk
       → IsPage p bytes but.content → IsOtherwiseSame size tells told spaces faults p old.disk mid.disk → (tells old.disk ≡ true → told mid.disk p ≡ Some bytes) → (tells mid.disk ≡ false → told mid.disk p ≡ None)

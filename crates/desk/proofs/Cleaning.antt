@@ -1,14 +1,27 @@
 -- Writes of dirty pages, one after the other, and what they leave.
-use Rattle.std.proofs.Common.{◌≡◌, ◌≤◌, ◌+◌, ◌++◌, ◌∷◌, ℕ, zero, suc, Bool, true, List, [], Option, None, Some, length, refl, ap, ◌∙◌, sym, subst, arith, append_assoc, append-nil}
+use Rattle.std.proofs.Common.{◌≡◌, ◌≤◌, ◌+◌, ◌⊎◌, ◌++◌, ◌∷◌, ℕ, zero, suc, Bool, true, false, List, [], Option, None, Some, length, refl, ap, ◌∙◌, sym, subst, arith, append_assoc, append-nil, inl, inr}
+use Rattle.std.specs.Prelude.{⊤}
 use Rattle.std.specs.Option.{is_some}
+use Rattle.page_ids.specs.declared.ids.PageId.{PageId}
+use Rattle.page_ids.specs.declared.lists.Words.{Words}
 use Rattle.redo_mark.specs.Logs.{Seen, IsLater, Grows}
+use Rattle.trail.specs.declared.event.Call.{Call}
+use Rattle.trail.specs.declared.event.Call.TheVariants as call
+use Rattle.trail.specs.declared.event.Cause.{Cause}
+use Rattle.trail.specs.declared.event.Cause.TheVariants as cause
+use Rattle.page_ids.specs.declared.config.Config.{Config}
 use Rattle.trail.specs.declared.event.Dirty.{Dirty}
 use Rattle.trail.specs.declared.event.Entry.{Entry}
+use Rattle.trail.specs.declared.event.Kind.TheVariants as kind
 use Rattle.trail.specs.Dirt.{dirty, dirt_of, is_dirty, cleaned}
-use Rattle.desk.specs.Changes.{IsWriteBack, WritesBack, IsWriteFault, LeavesDesk}
+use Rattle.desk.specs.Changes.{IsWriteBack, WritesBack, IsWriteFault, IsForced, IsStop, IsUncleaned, IsCleanRefusal, LeavesDesk, covered_to, mark_at, mark_behind, AllSayMarks, AreMarked}
+use Rattle.desk.specs.Ledger.{entry_behind}
+use Rattle.desk.specs.Logged.{IsUpTo}
 use Rattle.desk.specs.Reads.{RoseWithin}
 use Rattle.desk.specs.State.{State}
+use Rattle.desk.specs.Steps.{IsAppended}
 use Rattle.desk.specs.declared.calls.Caller.{Caller}
+use Rattle.desk.specs.declared.calls.CleanErr.TheVariants as unclean
 use Rattle.desk.specs.declared.flush.WriteErr.{WriteErr}
 use Rattle.desk.specs.declared.flush.WriteErr.TheVariants as unwritten
 use Rattle.desk.proofs.Dirt.{AreApart, dirty_apart, cleaned_front, same_self}
@@ -45,6 +58,49 @@ writes_count first by zero old new same =
 writes_count first by (suc n) old new writes =
     let rest = writes_count first by n old writes.0 writes.1 in
     (omega (arith, rest.0, written_less first by writes.0 new writes.2), omega (arith, rest.1, written_longer first by writes.0 new writes.2))
+
+mark_on : (durable end : ℕ) (came more : List Entry) → mark_behind durable end (more ++ came) ≡ mark_behind (mark_behind durable end came) end more
+mark_on durable end came [] = refl
+mark_on durable end came (e ∷ more) = ap (λ (m : ℕ). mark_at m end e.kind) (mark_on durable end came more)
+
+say_on : (durable end : ℕ) (came more : List Entry) → AllSayMarks durable end came → AllSayMarks (mark_behind durable end came) end more → AllSayMarks durable end (more ++ came)
+say_on durable end came [] said says = said
+say_on durable end came (e ∷ more) said says =
+    (subst (λ (m : ℕ). IsUpTo (mark_at m end e.kind) e.kind) (sym (mark_on durable end came more)) says.0, say_on durable end came more said says.1)
+
+-- no entry came; more entries did; a page was written; an entry came that is no write
+pub marked_none : (durable end : ℕ) (h : List Entry) → AreMarked durable end durable h h
+marked_none durable end h = record { came = []; split = refl; each = tt; now_is = refl }
+
+pub marked_on : (durable end now after : ℕ) (old mid new : List Entry) → AreMarked durable end now old mid → AreMarked now end after mid new → AreMarked durable end after old new
+marked_on durable end now after old mid new a b = record {
+  came = b.came ++ a.came;
+  split = b.split ∙ ap (λ (l : List Entry). b.came ++ l) a.split ∙ sym (append_assoc b.came a.came old);
+  each = say_on durable end a.came b.came a.each (subst (λ (m : ℕ). AllSayMarks m end b.came) a.now_is b.each);
+  now_is = b.now_is ∙ ap (λ (m : ℕ). mark_behind m end b.came) a.now_is ∙ sym (mark_on durable end a.came b.came);
+}
+
+pub marked_write : (durable end now first : ℕ) (by : Caller) (old new : List Entry) (p : PageId) (lsn upto : ℕ) → now ≡ covered_to durable end lsn → upto ≡ now
+    → new ≡ entry_behind first old by (kind.Write p lsn upto) ∷ old → AreMarked durable end now old new
+marked_write durable end now first by old new p lsn upto now_is upto_is is =
+    record { came = entry_behind first old by (kind.Write p lsn upto) ∷ []; split = is; each = (upto_is ∙ now_is, tt); now_is = now_is }
+
+marked_quiet : (durable end now : ℕ) (old mid new : List Entry) (e : Entry) → ((m : ℕ) → IsUpTo m e.kind) → ((m : ℕ) → mark_at m end e.kind ≡ m) → new ≡ e ∷ mid
+    → AreMarked durable end now old mid → AreMarked durable end now old new
+marked_quiet durable end now old mid new e quiet still is a = record {
+  came = e ∷ a.came;
+  split = is ∙ ap (λ (l : List Entry). e ∷ l) a.split;
+  each = (quiet (mark_behind durable end (e ∷ a.came)), a.each);
+  now_is = a.now_is ∙ sym (still (mark_behind durable end a.came));
+}
+
+pub marked_cleaned : (durable end now first : ℕ) (by : Caller) (old mid new : List Entry) (n : ℕ) (skipped : Words) → new ≡ entry_behind first mid by (kind.Clean n skipped) ∷ mid
+    → AreMarked durable end now old mid → AreMarked durable end now old new
+marked_cleaned durable end now first by old mid new n skipped is a = marked_quiet durable end now old mid new (entry_behind first mid by (kind.Clean n skipped)) (λ m. tt) (λ m. refl) is a
+
+pub marked_refused : (durable end now first : ℕ) (by : Caller) (old mid new : List Entry) (asked : Call) (why : Cause) → new ≡ entry_behind first mid by (kind.Refused asked why) ∷ mid
+    → AreMarked durable end now old mid → AreMarked durable end now old new
+marked_refused durable end now first by old mid new asked why is a = marked_quiet durable end now old mid new (entry_behind first mid by (kind.Refused asked why)) (λ m. tt) (λ m. refl) is a
 
 grows_same : (x : Option (List ℕ)) → Grows x x
 grows_same None = refl
@@ -91,3 +147,56 @@ module _ {D : Type 0} (size : D → ℕ) (tells : D → Bool) (spaces : D → �
     spaces_are = λ n. y.spaces_are n ∙ x.spaces_are n;
     later = omega (arith, x.later, y.later);
   }
+
+-- where nothing changed, nothing was forced
+pub forced_same : {D : Type 0} (old new : D) (e : WriteErr) → new ≡ old → IsForced old new ⊤ e
+forced_same old new (unwritten.RedoFault before after) same = (tt, same)
+forced_same old new (unwritten.DiskFault before after) same = tt
+
+-- and a failure behind a step that left the disk, which is no failure of the log
+pub forced_behind : {D A : Type 0} (old mid new : D) (e : WriteErr) → mid ≡ old → (A → ⊤) → IsForced mid new A e → IsForced old new ⊤ e
+forced_behind old mid new (unwritten.RedoFault before after) same on forced = (tt, forced.1 ∙ same)
+forced_behind old mid new (unwritten.DiskFault before after) same on forced = tt
+
+module _ {D : Type 0} (faults : D → ℕ) (old room mid new : State D) (by : Caller) (bound n : ℕ) (sync : Bool) (same : room ≡ old) (writes : WritesBack room.config.first by n room.history mid.history) (most : n ≤ bound)
+    (stop : IsStop n bound sync (dirty mid.history)) (config : mid.config ≡ room.config) (instance : mid.instance ≡ room.instance) (disk : new.disk ≡ mid.disk) where
+  -- a clean was refused behind its writes
+  uncleaned_is : (why : Cause) → IsAppended mid new by (kind.Refused (call.Clean bound) why) → IsUncleaned old new by bound sync why
+  uncleaned_is why a = record {
+    written = n;
+    cleaned = record {
+      mid = mid.history;
+      writes = subst (λ (x : State D). WritesBack x.config.first by n x.history mid.history) same writes;
+      history = a.history
+          ∙ ap (λ (c : Config). entry_behind c.first mid.history by (kind.Refused (call.Clean bound) why) ∷ mid.history) (config ∙ ap (λ (x : State D). x.config) same);
+      config = a.config ∙ config ∙ ap (λ (x : State D). x.config) same;
+      instance = a.instance ∙ instance ∙ ap (λ (x : State D). x.instance) same;
+    };
+    most = most;
+    stop = subst (λ (h : List Entry). IsStop n bound sync (dirty h)) (sym a.history) stop;
+  }
+
+  -- as the log failed
+  pub refused_by_log : (disk_was disk_is log_was log_is before after : ℕ) → RoseWithin log_was log_is before after → IsAppended mid new by (kind.Refused (call.Clean bound) (cause.RedoFault before after))
+      → (n ≡ 0 → mid.disk ≡ room.disk) → IsCleanRefusal old new by bound sync disk_was disk_is log_was log_is (unclean.RedoFault before after)
+  unfolding uncleaned_is
+  refused_by_log disk_was disk_is log_was log_is before after rose a unused =
+      (rose, uncleaned_is (cause.RedoFault before after) a, λ none. disk ∙ unused none ∙ ap (λ (x : State D). x.disk) same)
+
+  -- as the disk failed
+  pub refused_by_disk : (log_was log_is before after : ℕ) → RoseWithin (faults room.disk) (faults mid.disk) before after → IsAppended mid new by (kind.Refused (call.Clean bound) (cause.DiskFault before after))
+      → IsCleanRefusal old new by bound sync (faults old.disk) (faults new.disk) log_was log_is (unclean.DiskFault before after)
+  refused_by_disk log_was log_is before after rose a = (
+    subst (λ (x : State D). RoseWithin (faults x.disk) (faults new.disk) before after) same (subst (λ (d : D). RoseWithin (faults room.disk) (faults d) before after) (sym disk) rose),
+    uncleaned_is (cause.DiskFault before after) a,
+  )
+
+-- the same counts
+pub rose_is : (was is b a before after : ℕ) → b ≡ before → a ≡ after → RoseWithin was is before after → RoseWithin was is b a
+rose_is was is b a before after first last rose = subst (λ (n : ℕ). RoseWithin was is n a) (sym first) (subst (λ (n : ℕ). RoseWithin was is before n) (sym last) rose)
+
+-- without a sync, and with nothing to write, a clean stops nowhere
+pub unstopped : (written bound dirt : ℕ) (sync : Bool) (left : List Dirty) → IsStop written bound sync left → sync ≡ false → dirt ≡ length left + written → (bound ≡ 0) ⊎ (dirt ≡ 0) → ⊥
+unstopped written bound dirt sync left (inl some) unsynced all (inl none) = omega (arith, some.0, none)
+unstopped written bound dirt sync left (inl some) unsynced all (inr clean) = omega (arith, some.1, all, clean)
+unstopped written bound dirt sync left (inr rest) unsynced all few = let bad : true ≡ false = sym rest.0 ∙ unsynced in absurd (cc)

@@ -1,9 +1,7 @@
 -- The list of dirty pages as a history grows.
-use Rattle.std.proofs.Common.{◌≡◌, ◌<◌, ◌≤◌, ◌+◌, ◌++◌, ℕ, suc, get_or, set, Bool, true, false, not, cond, List, [], ◌∷◌, Option, None, Some, IsSomeAnd, length, refl, ap, ◌∙◌, sym, subst, arith, eq-eqb, nat_eq, ◌&&◌, ◌||◌, if◌then◌else◌}
+use Rattle.std.proofs.Common.{◌≡◌, ◌≤◌, ◌+◌, ℕ, Bool, true, false, not, List, [], ◌∷◌, Option, None, Some, IsSomeAnd, length, refl, ap, ◌∙◌, sym, subst, arith, eq-eqb, nat_eq, ◌&&◌, ◌||◌, if◌then◌else◌}
 use Rattle.std.specs.Prelude.{is_some, ⊤}
 use Rattle.std.proofs.lemmas.Bool.Decides.{nat_tests}
-use Rattle.std.specs.List.{position, position_from}
-use Rattle.std.proofs.lemmas.Iterator.Adapters.{position_from-zero}
 use Rattle.page_ids.specs.Same.{same_page}
 use Rattle.page_ids.specs.declared.ids.PageId.{PageId}
 use Rattle.trail.specs.declared.event.Dirty.{Dirty}
@@ -23,29 +21,6 @@ same_is q p is =
     let s : q.space ≡ p.space = grind (arith, nat_tests) in
     let n : q.page ≡ p.page = grind (arith, nat_tests) in
     rw (s, n) refl
-
--- whether the entry changes the list of dirty pages
-abbrev pub soils : Kind → Bool
-soils (kind.Load q f) = false
-soils (kind.Fix q f clock now) = false
-soils (kind.Create q f start end now) = true
-soils (kind.Put q at bytes start end) = true
-soils (kind.Evict q f passed) = false
-soils (kind.Write q lsn upto) = true
-soils (kind.Move q from to) = false
-soils (kind.Withdraw from) = false
-soils (kind.Undo from) = false
-soils (kind.Shrink chunks) = false
-soils (kind.Grow chunks) = false
-soils (kind.Resize bytes chunks) = false
-soils (kind.Clean written skipped) = false
-soils (kind.Check lsn) = false
-soils (kind.WatchSet q) = false
-soils (kind.WatchAt q f) = false
-soils (kind.Occurred q arrived) = false
-soils (kind.Unwatch q) = false
-soils (kind.Dump pct ids) = false
-soils (kind.Refused asked why) = false
 
 -- what holds of the list before, and after a change and after a write, holds after each entry
 pub dirt_cases : (P : List Dirty → Type 0) (k : Kind) (ds : List Dirty) → P ds → ((q : PageId) (start end : ℕ) → P (dirtied q start end ds)) → ((q : PageId) → P (cleaned q ds)) → P (dirty_after k ds)
@@ -69,29 +44,6 @@ dirt_cases P (kind.Occurred q arrived) ds was put written = was
 dirt_cases P (kind.Unwatch q) ds was put written = was
 dirt_cases P (kind.Dump pct ids) ds was put written = was
 dirt_cases P (kind.Refused asked why) ds was put written = was
-
--- each entry but a change and a write leaves the list
-pub dirt_left : (k : Kind) (ds : List Dirty) → soils k ≡ false → dirty_after k ds ≡ ds
-dirt_left (kind.Load q f) ds clean = refl
-dirt_left (kind.Fix q f clock now) ds clean = refl
-dirt_left (kind.Create q f start end now) ds clean = absurd (no_way clean)
-dirt_left (kind.Put q at bytes start end) ds clean = absurd (no_way clean)
-dirt_left (kind.Evict q f passed) ds clean = refl
-dirt_left (kind.Write q lsn upto) ds clean = absurd (no_way clean)
-dirt_left (kind.Move q from to) ds clean = refl
-dirt_left (kind.Withdraw from) ds clean = refl
-dirt_left (kind.Undo from) ds clean = refl
-dirt_left (kind.Shrink chunks) ds clean = refl
-dirt_left (kind.Grow chunks) ds clean = refl
-dirt_left (kind.Resize bytes chunks) ds clean = refl
-dirt_left (kind.Clean pages skipped) ds clean = refl
-dirt_left (kind.Check lsn) ds clean = refl
-dirt_left (kind.WatchSet q) ds clean = refl
-dirt_left (kind.WatchAt q f) ds clean = refl
-dirt_left (kind.Occurred q arrived) ds clean = refl
-dirt_left (kind.Unwatch q) ds clean = refl
-dirt_left (kind.Dump pct ids) ds clean = refl
-dirt_left (kind.Refused asked why) ds clean = refl
 
 -- what holds of no dirty pages, and goes on over changes and writes, holds of each history's
 pub dirt_always : (P : List Dirty → Type 0) → P [] → ((ds : List Dirty) (q : PageId) (start end : ℕ) → P ds → P (dirtied q start end ds)) → ((ds : List Dirty) (q : PageId) → P ds → P (cleaned q ds)) → (h : List Entry) → P (dirty h)
@@ -218,40 +170,3 @@ length-dirty [] = omega arith
 length-dirty (e ∷ h) =
     let was = length-dirty h in
     dirt_cases (λ ds. length ds ≤ length (e ∷ h)) e.kind (dirty h) (omega (arith, was)) (λ q start end. omega (arith, was, length-dirtied (dirty h) q start end)) (λ q. omega (arith, was, length-cleaned (dirty h) q))
-
--- where a page is dirty already, its newest LSN is the change's end, and no more
-place_found : (p : PageId) (start end : ℕ) (ds : List Dirty) (n i : ℕ) (was : Dirty) → position_from (λ (d : Dirty). same_page d.page p) n ds ≡ Some i
-    → (k : ℕ) × (i ≡ n + k) × (k < length ds) × (was ≡ get_or ds k was → dirtied p start end ds ≡ set ds k (record was { newest = end }))
-place_found p start end [] n i was is = absurd (cc)
-place_found p start end (d ∷ ds) n i was is = cases (same_page d.page p) is (place_found p start end ds (n + 1) i was)
-  where
-    cases : (b : Bool) → cond b (Some n) (position_from (λ (d : Dirty). same_page d.page p) (n + 1) ds) ≡ Some i
-        → (position_from (λ (d : Dirty). same_page d.page p) (n + 1) ds ≡ Some i
-        → (k : ℕ) × (i ≡ n + 1 + k) × (k < length ds) × (was ≡ get_or ds k was → dirtied p start end ds ≡ set ds k (record was { newest = end })))
-        → (k : ℕ) × (i ≡ n + k) × (k < length (d ∷ ds)) × (was ≡ get_or (d ∷ ds) k was
-        → (if b then record d { newest = end } ∷ ds else d ∷ dirtied p start end ds) ≡ set (d ∷ ds) k (record was { newest = end }))
-    cases true is next = let e : n ≡ i = cc in (0, omega (arith, e), omega arith, λ w. ap (λ (x : Dirty). record x { newest = end } ∷ ds) (sym w))
-    cases false is next = let r = next is in (suc r.0, omega (arith, r.1), omega (arith, r.2), λ w. ap (λ (l : List Dirty). d ∷ l) (r.3 w))
-
-place_missing : (p : PageId) (start end : ℕ) (ds : List Dirty) (n : ℕ) → position_from (λ (d : Dirty). same_page d.page p) n ds ≡ None
-    → dirtied p start end ds ≡ ds ++ record { page = p; oldest = start; newest = end } ∷ []
-place_missing p start end [] n is = refl
-place_missing p start end (d ∷ ds) n is = cases (same_page d.page p) is (place_missing p start end ds (n + 1))
-  where
-    cases : (b : Bool) → cond b (Some n) (position_from (λ (d : Dirty). same_page d.page p) (n + 1) ds) ≡ None
-        → (position_from (λ (d : Dirty). same_page d.page p) (n + 1) ds ≡ None → dirtied p start end ds ≡ ds ++ record { page = p; oldest = start; newest = end } ∷ [])
-        → (if b then record d { newest = end } ∷ ds else d ∷ dirtied p start end ds) ≡ (d ∷ ds) ++ record { page = p; oldest = start; newest = end } ∷ []
-    cases true is next = absurd (cc)
-    cases false is next = ap (λ (l : List Dirty). d ∷ l) (next is)
-
-pub soiled_there : (p : PageId) (start end : ℕ) (ds : List Dirty) (i : ℕ) (was : Dirty) → position (λ (d : Dirty). same_page d.page p) ds ≡ Some i
-    → was ≡ get_or ds i was → set ds i (record was { newest = end }) ≡ dirtied p start end ds
-soiled_there p start end ds i was is here =
-    let r = place_found p start end ds 0 i was (sym (position_from-zero (λ (d : Dirty). same_page d.page p) ds) ∙ is) in
-    let same : i ≡ r.0 = omega (arith, r.1) in
-    let there : was ≡ get_or ds r.0 was = subst (λ (k : ℕ). was ≡ get_or ds k was) same here in
-    ap (λ (k : ℕ). set ds k (record was { newest = end })) same ∙ sym (r.3 there)
-
-pub soiled_anew : (p : PageId) (start end : ℕ) (ds : List Dirty) → position (λ (d : Dirty). same_page d.page p) ds ≡ None
-    → ds ++ record { page = p; oldest = start; newest = end } ∷ [] ≡ dirtied p start end ds
-soiled_anew p start end ds is = sym (place_missing p start end ds 0 (sym (position_from-zero (λ (d : Dirty). same_page d.page p) ds) ∙ is))

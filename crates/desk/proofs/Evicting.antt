@@ -1,5 +1,5 @@
 -- A whole eviction, put together from its steps.
-use Rattle.std.proofs.Common.{◌≡◌, ◌<◌, ◌≤◌, ◌+◌, ◌^◌, ℕ, Bool, true, false, List, [], ◌∷◌, Option, None, Some, IfSome, IsSome, length, get_or, set, length-set, refl, ap, ◌∙◌, sym, subst, arith, inl, inr, append-nil}
+use Rattle.std.proofs.Common.{◌≡◌, ◌<◌, ◌≤◌, ◌+◌, ℕ, Bool, true, false, List, [], ◌∷◌, Option, None, Some, IfSome, length, set, length-set, refl, ap, ◌∙◌, sym, subst, arith, inl, inr, append-nil, ◌⊎◌, IsSome, get_or}
 use Rattle.std.proofs.lemmas.List.{set-set, set-get_or}
 use mathlib.Core.Logic.{dite}
 use native.Mathlib.Decide.{ℕ_discrete}
@@ -11,29 +11,30 @@ use Rattle.page_ids.specs.declared.frame_word.Word.{Word}
 use Rattle.page_ids.specs.declared.ids.PageId.{PageId}
 use Rattle.redo_mark.specs.Device.{Told}
 use Rattle.redo_mark.specs.Logs as log
-use Rattle.redo_mark.specs.Logs.{Seen, IsLater, Grows}
+use Rattle.redo_mark.specs.Logs.{Seen, Grows}
 use Rattle.trail.specs.declared.event.Cause.{Cause}
+use Rattle.trail.specs.declared.event.Dirty.{Dirty}
 use Rattle.trail.specs.declared.event.Entry.{Entry}
 use Rattle.trail.specs.declared.event.Held.{Held}
 use Rattle.trail.specs.declared.event.Kind.{Kind}
 use Rattle.trail.specs.declared.event.Kind.TheVariants as kind
-use Rattle.trail.specs.declared.event.Call.TheVariants as call
+use Rattle.trail.specs.declared.event.Call.{Call}
 use Rattle.trail.specs.Book.{book, next_frame}
 use Rattle.trail.specs.History.{home}
 use Rattle.trail.specs.Dirt.{is_dirty, log_end, log_end_after}
 use Rattle.trail.specs.Victim.{walk}
 use Rattle.frame_words.specs.Rows.{Row, IsFound, Uncovers, claimed_row, published_row, new_row}
-use Rattle.frame_words.specs.Seen.{FramesSeen, Turn, row_at, with_row}
+use Rattle.frame_words.specs.Seen.{FramesSeen, Turn, row_at}
 use Rattle.desk.specs.Base.{Opened}
 use Rattle.desk.specs.Behind.{IsBehind}
-use Rattle.desk.specs.Changes.{IsWriteFault, LeavesDesk}
+use Rattle.desk.specs.Changes.{IsWriteFault, IsForced, LeavesDesk}
 use Rattle.desk.specs.Claimed.{HasLooked, IsTaken, StopsAt, AreTiedBut, KeepsLog, cause_of, refusal_of}
 use Rattle.desk.specs.Ledger.{entry_behind}
 use Rattle.desk.specs.Logged.{IsLogged, IsLoggedKind, AreUpTo, IsUpTo}
 use Rattle.desk.specs.State.{State}
-use Rattle.desk.specs.Steps.{IsAppended, IsRefusedFix, row_in}
+use Rattle.desk.specs.Steps.{IsAppended, IsRefused, row_in}
 use Rattle.desk.specs.Tied.{AreTied, IsTied, HasTurn, IsOwn}
-use Rattle.desk.specs.Victims.{IsHad, IsUnhad, MustWrite, IsSettled, AreSettled, IsCleanedFirst, LeavesTurn}
+use Rattle.desk.specs.Victims.{IsHad, IsUnhad, MustWrite, IsAhead, MustCover, IsSettled, AreSettled, IsCleanedFirst, LeavesTurn}
 use Rattle.desk.specs.Walk.{AreOrderly}
 use Rattle.desk.specs.declared.calls.Caller.{Caller}
 use Rattle.desk.specs.declared.flush.WriteErr.{WriteErr}
@@ -130,6 +131,7 @@ log_same told s h = record {
   logged = λ is. is;
   known = λ is. is;
   upto = upto_none s.seen.durable h;
+  mark = inl refl;
 }
 
 module _ {D : Type 0} (tells : D → Bool) (told : D → PageId → Option (List ℕ)) (spaces : D → ℕ → Option ℕ) where
@@ -181,21 +183,23 @@ module _ {D : Type 0} (tells : D → Bool) (told : D → PageId → Option (List
       ∙ ap (set s.rows f) again
       ∙ set-get_or s.rows f new_row
 
--- a claimed frame has the clock that was seen
-pub taken_clock : (s t : FramesSeen) (h : List Entry) (p : PageId) (f clock : ℕ) → f < length s.rows → (taken : IsTaken s t h p f clock) → clock ≡ (row_at t f).clock
-taken_clock s t h p f clock inside taken =
-    taken.clock_is
-    ∙ sym (ap (λ (r : Row). r.clock) (row_here s.rows f (claimed_row (row_in s.rows f) taken.claimed.image) inside))
-    ∙ sym (ap (λ (l : List Row). (row_in l f).clock) (taken_rows s t h p f clock taken))
-
 -- why a fix was refused
-pub unhad_fault : {D : Type 0} (old new : State D) (rows : List Row) (by : Caller) (p : PageId) (now disk_was disk_is log_was log_is : ℕ) (e : WriteErr) → IsWriteFault disk_was disk_is log_was log_is e
-    → IsRefusedFix old new by p now (cause_of e) → MustWrite old rows → IsUnhad old new rows by p now disk_was disk_is log_was log_is (refusal_of e)
-unhad_fault old new rows by p now disk_was disk_is log_was log_is (unwritten.RedoFault before after) fault refused must = (fault, refused, must)
-unhad_fault old new rows by p now disk_was disk_is log_was log_is (unwritten.DiskFault before after) fault refused must = (fault, refused, must)
+pub unhad_fault : {D : Type 0} (old new : State D) (rows : List Row) (by : Caller) (p : PageId) (asked : Call) (disk_was disk_is durable log_was log_is : ℕ) (e : WriteErr) → IsWriteFault disk_was disk_is log_was log_is e
+    → IsRefused old new by asked (cause_of e) → (must : MustWrite old rows) → IsForced old.disk new.disk (IsAhead old.history must.victim durable) e → IsUnhad old new rows by p asked disk_was disk_is durable log_was log_is (refusal_of e)
+unhad_fault old new rows by p asked disk_was disk_is durable log_was log_is (unwritten.RedoFault before after) fault refused must forced = (fault, refused, record { write = must; ahead = forced.0 }, forced.1)
+unhad_fault old new rows by p asked disk_was disk_is durable log_was log_is (unwritten.DiskFault before after) fault refused must forced = (fault, refused, must)
+
+-- a page that was changed behind the durable mark is dirty
+ahead_dirty : (h : List Entry) (p : PageId) (durable : ℕ) → IsAhead h p durable → is_dirty h p ≡ true
+ahead_dirty h p durable ahead = ap (Rattle.std.specs.Option.is_some {T = Dirty}) ahead.was_dirty
+
+-- what was needed for one reason was needed for another
+pub forced_on : {D A B : Type 0} (old new : D) (e : WriteErr) → (A → B) → IsForced old new A e → IsForced old new B e
+forced_on old new (unwritten.RedoFault before after) on forced = (on forced.0, forced.1)
+forced_on old new (unwritten.DiskFault before after) on forced = tt
 
 -- a dirty victim has to be written
-pub must_write : {D : Type 0} (s t : FramesSeen) (old : State D) (p : PageId) (f clock : ℕ) (found : Option (List (ℕ × Word))) (passed : List (ℕ × Word)) → next_frame (book old.config old.history) ≡ None → s.visit ≡ None
+unfoldable pub must_write : {D : Type 0} (s t : FramesSeen) (old : State D) (p : PageId) (f clock : ℕ) (found : Option (List (ℕ × Word))) (passed : List (ℕ × Word)) → next_frame (book old.config old.history) ≡ None → s.visit ≡ None
     → IsTaken s t old.history p f clock → StopsAt old.history s.rows found (walk old.config old.history) p passed → is_dirty old.history p ≡ true → MustWrite old s.rows
 must_write s t old p f clock found passed none_free alone taken stops soiled = record {
   victim = p;
@@ -215,6 +219,14 @@ must_write s t old p f clock found passed none_free alone taken stops soiled = r
   soiled = soiled;
 }
 
+-- the log was used for a victim, where it was used
+pub must_cover : {D L : Type 0} {x y : L} (s t : FramesSeen) (old : State D) (p : PageId) (f clock durable : ℕ) (found : Option (List (ℕ × Word))) (passed : List (ℕ × Word)) → next_frame (book old.config old.history) ≡ None → s.visit ≡ None
+    → IsTaken s t old.history p f clock → StopsAt old.history s.rows found (walk old.config old.history) p passed → (y ≡ x) ⊎ IsAhead old.history p durable → (y ≡ x) ⊎ MustCover old s.rows durable
+unfolding must_write
+must_cover s t old p f clock durable found passed none_free alone taken stops (inl same) = inl same
+must_cover s t old p f clock durable found passed none_free alone taken stops (inr ahead) =
+    inr (record { write = must_write s t old p f clock found passed none_free alone taken stops (ahead_dirty old.history p durable ahead); ahead = ahead })
+
 -- an entry behind a change of the disk alone
 pub appended_on : {D : Type 0} (old mid new : State D) (by : Caller) (k : Kind) → mid ≡ on_disk old mid.disk → IsAppended mid new by k → IsAppended old new by k
 appended_on old mid new by k kept a = let b = subst (λ (m : State _). IsAppended m new by k) kept a in record { config = b.config; instance = b.instance; history = b.history }
@@ -222,9 +234,9 @@ appended_on old mid new by k kept a = let b = subst (λ (m : State _). IsAppende
 -- the evict of a page that was clean, or was written first
 pub evicted_is : {D : Type 0} (s t u : FramesSeen) (old mid new : State D) (by : Caller) (p : PageId) (f clock : ℕ) (found : Option (List (ℕ × Word))) (passed words : List (ℕ × Word)) → next_frame (book old.config old.history) ≡ None → s.visit ≡ None
     → (taken : IsTaken s t old.history p f clock) → (stops : StopsAt old.history s.rows found (walk old.config old.history) p passed) → AreInOrder old.history s.rows found stops.before words
-    → IsCleanedFirst old.config.first by p old.history mid.history → mid.config ≡ old.config → mid.instance ≡ old.instance → IsAppended mid new by (kind.Evict p f words) → u.rows ≡ t.rows
+    → IsCleanedFirst old.config.first by p old.history mid.history → (is_dirty old.history p ≡ false → new.disk ≡ old.disk) → mid.config ≡ old.config → mid.instance ≡ old.instance → IsAppended mid new by (kind.Evict p f words) → u.rows ≡ t.rows
     → IsHad old new s.rows u.rows by f
-evicted_is s t u old mid new by p f clock found passed words none_free alone taken stops are cleaned config instance a rows = inr (record {
+evicted_is s t u old mid new by p f clock found passed words none_free alone taken stops are cleaned unused config instance a rows = inr (record {
   page = p;
   passed = words;
   mid = mid.history;
@@ -236,6 +248,7 @@ evicted_is s t u old mid new by p f clock found passed words none_free alone tak
   housed = taken.housed;
   unfixed = taken_unfixed s t old.history p f clock alone taken;
   cleaned = cleaned;
+  unused = unused;
   history = a.history ∙ ap (λ (c : Config). entry_behind c.first mid.history by (kind.Evict p f words) ∷ mid.history) config;
   config = a.config ∙ config;
   instance = a.instance ∙ instance;
@@ -259,8 +272,8 @@ left_none false o is = is
 pub evict_absent : {D : Type 0} (mid new : State D) (by : Caller) (p q : PageId) (f : ℕ) (words : List (ℕ × Word)) → IsAppended mid new by (kind.Evict p f words) → home mid.history q ≡ None → home new.history q ≡ None
 evict_absent mid new by p q f words a none = ap (λ (h : List Entry). home h q) a.history ∙ left_none (same_page p q) (home mid.history q) none
 
-pub refused_absent : {D : Type 0} (mid new : State D) (by : Caller) (p q : PageId) (now : ℕ) (why : Cause) → IsAppended mid new by (kind.Refused (call.Fix p now) why) → home mid.history q ≡ None → home new.history q ≡ None
-refused_absent mid new by p q now why a none = ap (λ (h : List Entry). home h q) a.history ∙ none
+pub refused_absent : {D : Type 0} (mid new : State D) (by : Caller) (q : PageId) (asked : Call) (why : Cause) → IsAppended mid new by (kind.Refused asked why) → home mid.history q ≡ None → home new.history q ≡ None
+refused_absent mid new by q asked why a none = ap (λ (h : List Entry). home h q) a.history ∙ none
 
 -- entries of a kind that no log has to know
 pub log_on : {R : Type 0} (told : R → Option Told) (old new : log.State R) (h k l : List Entry) → ((x : Seen) → IsLogged x k → IsLogged x l) → log_end l ≡ log_end k → ((m : ℕ) (g : List Entry) → AreUpTo m g k → AreUpTo m g l) → KeepsLog told old new h k → KeepsLog told old new h l
@@ -271,6 +284,7 @@ log_on told old new h k l logged ends upto keeps = record {
   logged = λ is. logged new.seen (keeps.logged is);
   known = λ is. let known = keeps.known is in omega (arith, known, ends);
   upto = upto new.seen.durable h keeps.upto;
+  mark = keeps.mark;
 }
 
 pub log_appended : {D : Type 0} {R : Type 0} (told : R → Option Told) (old new : log.State R) (h : List Entry) (mid desk : State D) (by : Caller) (k : Kind) → ((x : Seen) → IsLoggedKind x k) → ((n : ℕ) → log_end_after k n ≡ n) → ((m : ℕ) → IsUpTo m k)
@@ -279,9 +293,9 @@ log_appended told old new h mid desk by k kinds ends marks a keeps = log_on told
     (λ x is. subst (λ (l : List Entry). IsLogged x l) (sym a.history) (kinds x, is)) (ap log_end a.history ∙ ends (log_end mid.history))
     (λ m g were. upto_more m g mid.history desk.history (entry_behind mid.config.first mid.history by k) (marks m) a.history were) keeps
 
-pub fault_logged : (x : Seen) (p : PageId) (now : ℕ) (e : WriteErr) → IsLoggedKind x (kind.Refused (call.Fix p now) (cause_of e))
-fault_logged x p now (unwritten.RedoFault before after) = tt
-fault_logged x p now (unwritten.DiskFault before after) = tt
+pub fault_logged : (x : Seen) (asked : Call) (e : WriteErr) → IsLoggedKind x (kind.Refused asked (cause_of e))
+fault_logged x asked (unwritten.RedoFault before after) = tt
+fault_logged x asked (unwritten.DiskFault before after) = tt
 
 -- a step that leaves numbers and disk
 pub leaves_more : {D : Type 0} (size : D → ℕ) (tells : D → Bool) (spaces : D → ℕ → Option ℕ) (faults : D → ℕ) (old mid new : State D) → LeavesDesk size tells spaces faults old mid

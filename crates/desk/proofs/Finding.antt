@@ -1,5 +1,6 @@
 -- What the words of the frames that were passed say: how a victim was found, and that all frames are fixed.
 use Rattle.std.proofs.Common.{◌≡◌, ◌<◌, ℕ, List, [], ◌∷◌, Option, None, Some, refl, ◌∙◌, sym, subst, arith}
+use Rattle.std.proofs.lemmas.List.Sorted.{IsPermutation-refl}
 use Rattle.std.specs.Prelude.{Contains, IsPermutation}
 use Rattle.std.specs.List.Sorted.{IsNonDecreasingBy}
 use Rattle.std.specs.Option.{option_map_or}
@@ -57,7 +58,7 @@ pub all_fixed_are : (c : Config) (h : List Entry) (rows : List Row) (found : Opt
 all_fixed_are c h rows found p words orderly none_free full absent are = record {
   absent = absent;
   none_free = no_front (book c h) none_free;
-  frames = frames_are 0 c.frames words are.rising
+  frames = subst (λ (there : List ℕ). IsPermutation there (frames_of words)) (frames_are 0 c.frames words are.rising
       (λ f least most.
       let q = full f (omega (arith, most)) in
       let there = are.passed_are.each q.0 (housed_walked c h q.0 f orderly q.1) in
@@ -66,7 +67,7 @@ all_fixed_are c h rows found p words orderly none_free full absent are = record 
       let q = are.passed_are.only f here in
       let below = orderly.below q.0 f q.2 in
       (omega arith, omega (arith, below)))
-      ∙ sym orderly.there;
+      ∙ sym orderly.there) (IsPermutation-refl (frames_of words));
   fixed = are.passed_are.fixed;
 }
 

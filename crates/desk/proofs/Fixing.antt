@@ -5,8 +5,10 @@ use Rattle.std.specs.Option.{is_some, option_map}
 use Rattle.page_ids.specs.Content.{Content}
 use Rattle.page_ids.specs.Same.{same_page}
 use Rattle.page_ids.specs.declared.ids.PageId.{PageId}
+use Rattle.page_ids.specs.declared.layout.BadPage.{BadPage}
 use Rattle.page_disk.specs.Disks.{pages_in, IsInside, IsSameDisk}
 use Rattle.redo_mark.specs.Logs.{Seen}
+use Rattle.trail.specs.declared.event.Call.TheVariants as call
 use Rattle.trail.specs.declared.event.Dirty.{Dirty}
 use Rattle.trail.specs.declared.event.Entry.{Entry}
 use Rattle.trail.specs.declared.event.Held.{Held}
@@ -17,18 +19,17 @@ use Rattle.trail.specs.Dirt.{dirty, dirt_of, is_dirty, cleaned, log_end, log_end
 use Rattle.frame_words.specs.Rows.{Row, reached, held_row}
 use Rattle.frame_words.specs.Seen.{FramesSeen}
 use Rattle.desk.specs.Changes.{LeavesDesk}
-use Rattle.desk.specs.Claimed.{refusal_of}
-use Rattle.desk.specs.Fixing.{IsFixRefusal, NeedsNoVictim, IsUnlogged}
+use Rattle.desk.specs.Fixing.{IsFixRefusal, NeedsNoVictim, IsUnlogged, fix_err_of}
 use Rattle.desk.specs.Loads.{MayFix, IsOneMore}
 use Rattle.desk.specs.Logged.{IsLogged, IsLoggedKind, IsUpTo}
 use Rattle.desk.specs.State.{State}
 use Rattle.desk.specs.Steps.{IsAppended, IsLoadRefusal, row_in, loaded_row}
-use Rattle.desk.specs.Victims.{IsSettled, AreSettled, IsCleanedFirst, IsHad, IsUnhad, LeavesTurn}
+use Rattle.desk.specs.Victims.{IsSettled, AreSettled, IsCleanedFirst, IsHad, IsUnhad, IsUnforced, LeavesTurn}
 use Rattle.desk.specs.declared.calls.Caller.{Caller}
 use Rattle.desk.specs.declared.calls.FixErr.{FixErr}
 use Rattle.desk.specs.declared.calls.FixErr.TheVariants as refusal
-use Rattle.desk.specs.declared.flush.WriteErr.{WriteErr}
-use Rattle.desk.specs.declared.flush.WriteErr.TheVariants as unwritten
+use Rattle.desk.specs.declared.calls.FrameErr.{FrameErr}
+use Rattle.desk.specs.declared.calls.FrameErr.TheVariants as unhad
 use Rattle.desk.proofs.Dirt.{cleaned_of, no_way}
 use Rattle.desk.proofs.Logging.{upto_more}
 use Rattle.desk.specs.Ledger.{entry_behind}
@@ -146,28 +147,25 @@ still_inside spaces d e p same is = subst (λ (o : Option ℕ). IsSomeAnd o (λ 
 
 module _ {D : Type 0} (told : D → PageId → Option (List ℕ)) (spaces : D → ℕ → Option ℕ) (faults : D → ℕ) where
   -- no frame was had
-  pub unhad_refused : (old new : State D) (rows now : List Row) (by : Caller) (held : ℕ) (p : PageId) (moment was is : ℕ) (e : FixErr) → p.page < pages_in (spaces old.disk) p.space → held < 64
-      → home old.history p ≡ None → now ≡ rows → IsUnhad old new rows by p moment (faults old.disk) (faults new.disk) was is e
-      → IsFixRefusal told spaces faults old new rows now by held p moment was is e
-  unhad_refused old new rows now by held p moment was is refusal.OutOfMemory within few absent same un = (un, same)
-  unhad_refused old new rows now by held p moment was is (refusal.NoSuchPage pages) within few absent same un = absurd un
-  unhad_refused old new rows now by held p moment was is (refusal.HoldFull full) within few absent same un = absurd un
-  unhad_refused old new rows now by held p moment was is (refusal.AllFixed seen) within few absent same un =
+  pub unhad_refused : (old new : State D) (rows now : List Row) (by : Caller) (held : ℕ) (p : PageId) (moment durable was is : ℕ) (e : FrameErr) → p.page < pages_in (spaces old.disk) p.space → held < 64
+      → home old.history p ≡ None → now ≡ rows → IsUnhad old new rows by p (call.Fix p moment) (faults old.disk) (faults new.disk) durable was is e
+      → IsFixRefusal told spaces faults old new rows now by held p moment durable was is (fix_err_of e)
+  unhad_refused old new rows now by held p moment durable was is unhad.OutOfMemory within few absent same un = (un, same)
+  unhad_refused old new rows now by held p moment durable was is (unhad.AllFixed seen) within few absent same un =
       (within, few, record { absent = absent; full = un.0; entry = un.1; disk = un.2 }, same)
-  unhad_refused old new rows now by held p moment was is (refusal.RedoFault before after) within few absent same un =
-      (within, few, record { absent = absent; rose = un.0; entry = un.1 }, same, un.2)
-  unhad_refused old new rows now by held p moment was is (refusal.DiskFault before after) within few absent same un =
+  unhad_refused old new rows now by held p moment durable was is (unhad.RedoFault before after) within few absent same un =
+      (within, few, record { absent = absent; rose = un.0; entry = un.1 }, same, un.2, un.3)
+  unhad_refused old new rows now by held p moment durable was is (unhad.DiskFault before after) within few absent same un =
       (within, few, inl (record { absent = absent; rose = un.0; entry = un.1 }, same, un.2))
-  unhad_refused old new rows now by held p moment was is (refusal.BadPage bad) within few absent same un = absurd un
 
   -- a frame was had, and the page not read
-  pub unread_refused : (old had new : State D) (rows cleared now : List Row) (by : Caller) (held : ℕ) (p : PageId) (moment was is f : ℕ) (e : FixErr) → p.page < pages_in (spaces old.disk) p.space → held < 64
+  pub unread_refused : (old had new : State D) (rows cleared now : List Row) (by : Caller) (held : ℕ) (p : PageId) (moment durable was is f : ℕ) (e : FixErr) → p.page < pages_in (spaces old.disk) p.space → held < 64
       → home old.history p ≡ None → faults old.disk ≤ faults had.disk → told had.disk p ≡ told old.disk p → IsHad old had rows cleared by f → now ≡ cleared → IsLoadRefusal told faults had new by p moment e
-      → IsFixRefusal told spaces faults old new rows now by held p moment was is e
-  unread_refused old had new rows cleared now by held p moment was is f e within few absent later still had_is same un =
-      subst (λ (r : List Row). IsFixRefusal told spaces faults old new rows r by held p moment was is e) (sym same) (go e un)
+      → IsFixRefusal told spaces faults old new rows now by held p moment durable was is e
+  unread_refused old had new rows cleared now by held p moment durable was is f e within few absent later still had_is same un =
+      subst (λ (r : List Row). IsFixRefusal told spaces faults old new rows r by held p moment durable was is e) (sym same) (go e un)
     where
-      go : (e : FixErr) → IsLoadRefusal told faults had new by p moment e → IsFixRefusal told spaces faults old new rows cleared by held p moment was is e
+      go : (e : FixErr) → IsLoadRefusal told faults had new by p moment e → IsFixRefusal told spaces faults old new rows cleared by held p moment durable was is e
       go refusal.OutOfMemory un = absurd un
       go (refusal.NoSuchPage pages) un = absurd un
       go (refusal.HoldFull full) un = absurd un
@@ -176,20 +174,19 @@ module _ {D : Type 0} (told : D → PageId → Option (List ℕ)) (spaces : D �
       go (refusal.DiskFault before after) un = (within, few, inr (record { absent = absent; had = had; frame = f; frame_is = had_is; page_told = still; because = (later, un) }))
       go (refusal.BadPage bad) un = (within, few, record { absent = absent; had = had; frame = f; frame_is = had_is; page_told = still; because = un })
 
--- the log as it was
-pub unlogged_same : {L : Type 0} (x : L) (e : FixErr) → IsUnlogged x x e
-unlogged_same x refusal.OutOfMemory = refl
-unlogged_same x (refusal.NoSuchPage pages) = refl
-unlogged_same x (refusal.HoldFull held) = refl
-unlogged_same x (refusal.AllFixed seen) = refl
-unlogged_same x (refusal.RedoFault before after) = tt
-unlogged_same x (refusal.DiskFault before after) = tt
-unlogged_same x (refusal.BadPage bad) = tt
+-- the log is as it was where no device failed
+pub unforced_unlogged : {L : Type 0} (x y : L) (e : FrameErr) → IsUnforced x y e → IsUnlogged x y (fix_err_of e)
+unforced_unlogged x y unhad.OutOfMemory same = same
+unforced_unlogged x y (unhad.AllFixed seen) same = same
+unforced_unlogged x y (unhad.RedoFault before after) same = tt
+unforced_unlogged x y (unhad.DiskFault before after) same = tt
 
--- a device was used
-pub unlogged_fault : {L : Type 0} (x y : L) (e : WriteErr) → IsUnlogged x y (refusal_of e)
-unlogged_fault x y (unwritten.RedoFault before after) = tt
-unlogged_fault x y (unwritten.DiskFault before after) = tt
+-- nothing was read where no frame was had
+pub unhad_no_bad : (e : FrameErr) (bad : BadPage) → fix_err_of e ≡ refusal.BadPage bad → ⊥
+unhad_no_bad unhad.OutOfMemory bad is = absurd (cc)
+unhad_no_bad (unhad.AllFixed seen) bad is = absurd (cc)
+unhad_no_bad (unhad.RedoFault before after) bad is = absurd (cc)
+unhad_no_bad (unhad.DiskFault before after) bad is = absurd (cc)
 
 pub unlogged_load : {D L : Type 0} (told : D → PageId → Option (List ℕ)) (faults : D → ℕ) (old new : State D) (by : Caller) (p : PageId) (now : ℕ) (x y : L) (e : FixErr) → IsLoadRefusal told faults old new by p now e → IsUnlogged x y e
 unlogged_load told faults old new by p now x y refusal.OutOfMemory un = absurd un

@@ -1,7 +1,9 @@
 pub mod Dirt
 pub mod ListsNew
 pub mod ListsOrder
+pub mod ListsFlush
 pub mod ListsKept
+pub mod ListsMaking
 pub mod ListsWalk
 pub mod Keeping
 pub mod Logging
@@ -14,7 +16,7 @@ pub mod Blank
 pub mod Cleaning
 pub mod BehindWrites
 pub mod Changing
-pub mod Trials
+pub mod Checking
 pub mod Walks
 pub mod PassedWords
 pub mod Values
@@ -22,4 +24,7 @@ pub mod Claims
 pub mod Seeking
 pub mod Finding
 pub mod Evicting
+pub mod Asking
+pub mod Creating
 pub mod Fixing
+pub mod Making

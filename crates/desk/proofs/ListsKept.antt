@@ -1,6 +1,5 @@
 -- The lists stay those of the history as entries come.
-use Rattle.std.proofs.Common.{◌≡◌, ◌≢◌, ◌∙◌, ◌==◌, ◌+◌, ◌<◌, ◌≤◌, ◌++◌, ℕ, Bool, true, false, not, cond, List, [], ◌∷◌, length, set, drop, take, reverse, Option, Some, None, refl, sym, ap, subst, arith, inl, inr, eq-eqb, ◌||◌, IsSome}
-use Rattle.std.specs.Prelude.{is_some}
+use Rattle.std.proofs.Common.{◌≡◌, ◌≢◌, ◌∙◌, ◌==◌, ◌+◌, ◌<◌, ◌≤◌, ◌++◌, ℕ, Bool, true, false, not, cond, List, [], ◌∷◌, length, set, drop, take, reverse, Option, Some, None, refl, sym, ap, subst, arith, inl, inr, eq-eqb}
 use Rattle.std.specs.Option.{option_map_or}
 use Rattle.std.proofs.lemmas.List.{reverse-append, get_or-set_same, get_or-set_other, length-set}
 use Rattle.std.proofs.lemmas.Bool.{cases_eq}
@@ -10,6 +9,7 @@ use Rattle.page_ids.specs.declared.ids.PageId.{PageId}
 use Rattle.page_ids.specs.declared.config.Config.{Config}
 use Rattle.page_ids.specs.declared.frame_word.Word.{Word}
 use Rattle.midpoint_lru.specs.View.{View}
+use Rattle.flush_list.specs.View.{View as Flush}
 use Rattle.trail.specs.declared.event.Call.{Call}
 use Rattle.trail.specs.declared.event.Cause.{Cause}
 use Rattle.trail.specs.declared.event.Dirty.{Dirty}
@@ -19,11 +19,12 @@ use Rattle.trail.specs.declared.event.Kind.TheVariants as kind
 use Rattle.trail.specs.Places.{mark}
 use Rattle.trail.specs.History.{home, home_after}
 use Rattle.trail.specs.Book.{Book, book, book_after, give_next, is_late, without, front, next_frame, use_frame}
-use Rattle.trail.specs.Dirt.{dirty, dirty_after, dirtied, cleaned, dirt_of, is_dirty, log_end, log_end_after}
+use Rattle.trail.specs.Dirt.{dirty, dirty_after, is_dirty, log_end, log_end_after}
 use Rattle.trail.specs.Order.{order, order_after}
 use Rattle.desk.specs.Ledger.{IsVacant}
-use Rattle.desk.specs.KeptLists.{AreKept, KeepsHomes, KeepsBook, KeepsDirty, Absent, AreFrames, in_turn, plain_book, page_in, is_quiet, AreOthersUsed}
-use Rattle.desk.proofs.Dirt.{no_way, same_self, same_is, dirtied_is, dirtied_here, dirtied_other, cleaned_of}
+use Rattle.desk.specs.KeptLists.{AreKept, KeepsHomes, KeepsBook, KeepsDirty, Absent, AreFrames, in_turn, plain_book, page_in, is_quiet, AreOthersUsed, newest_in, after_change, after_write}
+use Rattle.desk.proofs.Dirt.{no_way, same_self, same_is}
+use Rattle.desk.proofs.ListsFlush.{dirt_on, dirt_load, dirt_evict, dirt_put, dirt_write, dirt_write_away}
 use Rattle.desk.proofs.ListsOrder.{order_on, order_fix, order_load, order_evict}
 
 pub reverse-push : {A : Type 0} → (xs : List A) (x : A) → reverse (xs ++ x ∷ []) ≡ x ∷ reverse xs
@@ -97,7 +98,7 @@ pub next_is : (c : Config) (h : List Entry) (free : List ℕ) (hand : Option ℕ
 next_is c h free hand k = ap next_frame k.book_is ∙ front_turn hand free
 
 -- Homes.
-homes_on : (c : Config) (h new : List Entry) (homes : PageId → Option ℕ) (tenants : List PageId) → ((p : PageId) → home new p ≡ home h p) → KeepsHomes c h homes tenants → KeepsHomes c new homes tenants
+pub homes_on : (c : Config) (h new : List Entry) (homes : PageId → Option ℕ) (tenants : List PageId) → ((p : PageId) → home new p ≡ home h p) → KeepsHomes c h homes tenants → KeepsHomes c new homes tenants
 homes_on c h new homes tenants same k = record {
   homes_are = λ p. k.homes_are p ∙ sym (same p);
   housed = λ p f here. k.housed p f (sym (same p) ∙ here);
@@ -143,7 +144,7 @@ homes_evict c h new homes less tenants p after grown k = record {
     was q g false here = here
 
 -- The book.
-book_on : (c : Config) (h new : List Entry) (free : List ℕ) (hand : Option ℕ) → ((p : PageId) → home new p ≡ home h p) → book c new ≡ book c h → KeepsBook c h free hand → KeepsBook c new free hand
+pub book_on : (c : Config) (h new : List Entry) (free : List ℕ) (hand : Option ℕ) → ((p : PageId) → home new p ≡ home h p) → book c new ≡ book c h → KeepsBook c h free hand → KeepsBook c new free hand
 book_on c h new free hand same stays k = record {
   book_is = stays ∙ k.book_is;
   distinct = k.distinct;
@@ -215,7 +216,7 @@ book_late c h new free hand same gave k = by_turn (in_turn hand free) refl
         }
 
 -- The frames that are not in turn.
-used_on : (c : Config) (h new : List Entry) (tenants : List PageId) (fs : List ℕ) → ((p : PageId) → home new p ≡ home h p) → AreOthersUsed c h tenants fs → AreOthersUsed c new tenants fs
+pub used_on : (c : Config) (h new : List Entry) (tenants : List PageId) (fs : List ℕ) → ((p : PageId) → home new p ≡ home h p) → AreOthersUsed c h tenants fs → AreOthersUsed c new tenants fs
 used_on c h new tenants fs same k = λ f below away. same (page_in tenants f) ∙ k f below away
 
 used_load : (c : Config) (h new : List Entry) (tenants : List PageId) (p : PageId) (f : ℕ) (rest : List ℕ)
@@ -253,80 +254,6 @@ used_late c h new tenants fs same k = λ f below away. same (page_in tenants f) 
     front_too f [] away = tt
     front_too f (g ∷ rest) away = absent_before_last f g rest away
 
--- Dirty pages.
-dirt_on : (h new : List Entry) (ds : List Dirty) → ((p : PageId) → home new p ≡ home h p) → dirty new ≡ dirty h → log_end new ≡ log_end h → KeepsDirty h ds → KeepsDirty new ds
-dirt_on h new ds same stays ends k = record {
-  dirty_are = k.dirty_are ∙ sym stays;
-  clean = λ p none. ap (λ (l : List Dirty). is_some (dirt_of l p)) stays ∙ k.clean p (sym (same p) ∙ none);
-  logged = λ p d there. let was = k.logged p d (ap (λ (l : List Dirty). dirt_of l p) (sym stays) ∙ there) in omega (arith, was, ends);
-}
-
-dirt_load : (h new : List Entry) (ds : List Dirty) (p : PageId) (f : ℕ) → ((q : PageId) → home new q ≡ cond (same_page p q) (Some f) (home h q)) → dirty new ≡ dirty h → log_end new ≡ log_end h → KeepsDirty h ds → KeepsDirty new ds
-dirt_load h new ds p f after stays ends k = record {
-  dirty_are = k.dirty_are ∙ sym stays;
-  clean = λ q none. ap (λ (l : List Dirty). is_some (dirt_of l q)) stays ∙ k.clean q (was q (same_page p q) (sym (after q) ∙ none));
-  logged = λ q d there. let was = k.logged q d (ap (λ (l : List Dirty). dirt_of l q) (sym stays) ∙ there) in omega (arith, was, ends);
-}
-  where
-    was : (q : PageId) (b : Bool) → cond b (Some f) (home h q) ≡ None → home h q ≡ None
-    was q true none = absurd (none_some f (sym none))
-    was q false none = none
-
-dirt_evict : (h new : List Entry) (ds : List Dirty) (p : PageId) → ((q : PageId) → home new q ≡ cond (same_page p q) None (home h q)) → dirty new ≡ dirty h → log_end new ≡ log_end h → is_dirty h p ≡ false
-    → KeepsDirty h ds → KeepsDirty new ds
-dirt_evict h new ds p after stays ends clean k = record {
-  dirty_are = k.dirty_are ∙ sym stays;
-  clean = λ q none. ap (λ (l : List Dirty). is_some (dirt_of l q)) stays ∙ was q (same_page p q) refl (sym (after q) ∙ none);
-  logged = λ q d there. let was = k.logged q d (ap (λ (l : List Dirty). dirt_of l q) (sym stays) ∙ there) in omega (arith, was, ends);
-}
-  where
-    was : (q : PageId) (b : Bool) → same_page p q ≡ b → cond b None (home h q) ≡ None → is_dirty h q ≡ false
-    was q true same none = ap (is_dirty h) (sym (same_is p q same)) ∙ clean
-    was q false same none = k.clean q none
-
-dirt_put : (h new : List Entry) (ds : List Dirty) (p : PageId) (start end : ℕ) → ((q : PageId) → home new q ≡ home h q) → dirty new ≡ dirtied p start end (dirty h) → log_end new ≡ end → log_end h ≤ end → IsSome (home h p)
-    → KeepsDirty h ds → KeepsDirty new (dirtied p start end ds)
-dirt_put h new ds p start end same stays ends ahead resident k = record {
-  dirty_are = ap (dirtied p start end) k.dirty_are ∙ sym stays;
-  clean = λ q none. ap (λ (l : List Dirty). is_some (dirt_of l q)) stays ∙ dirtied_is (dirty h) p q start end ∙ clean q (same_page p q) refl (sym (same q) ∙ none);
-  logged = λ q d there. logged q d (same_page p q) refl (ap (λ (l : List Dirty). dirt_of l q) (sym stays) ∙ there);
-}
-  where
-    lost : (o : Option ℕ) → IsSome o → o ≡ None → ⊥
-    lost None some none = no_way (sym some)
-    lost (Some f) some none = none_some f (sym none)
-
-    clean : (q : PageId) (b : Bool) → same_page p q ≡ b → home h q ≡ None → (b || is_dirty h q) ≡ false
-    clean q true is none = absurd (lost (home h p) resident (ap (home h) (same_is p q is) ∙ none))
-    clean q false is none = k.clean q none
-
-    newest : (o : Option Dirty) (d : Dirty) → Rattle.std.specs.Prelude.IsSomeAnd o (λ x. (x.page ≡ p) × (x.newest ≡ end)) → o ≡ Some d → d.newest ≡ end
-    newest None d is e = absurd is
-    newest (Some x) d is e = sym (ap (λ (y : Dirty). y.newest) (some_same x d e)) ∙ is.1
-
-    logged : (q : PageId) (d : Dirty) (b : Bool) → same_page p q ≡ b → dirt_of (dirtied p start end (dirty h)) q ≡ Some d → d.newest ≤ log_end new
-    logged q d true is there =
-        let last : d.newest ≡ end = newest (dirt_of (dirtied p start end (dirty h)) p) d (dirtied_here (dirty h) p start end) (ap (dirt_of (dirtied p start end (dirty h))) (same_is p q is) ∙ there) in
-        omega (arith, last, ends)
-    logged q d false is there =
-        let was = k.logged q d (sym (dirtied_other (dirty h) p q start end is) ∙ there) in
-        omega (arith, was, ends, ahead)
-
-dirt_write : (h new : List Entry) (ds : List Dirty) (p : PageId) → ((q : PageId) → home new q ≡ home h q) → dirty new ≡ cleaned p (dirty h) → log_end new ≡ log_end h → KeepsDirty h ds → KeepsDirty new (cleaned p ds)
-dirt_write h new ds p same stays ends k = record {
-  dirty_are = ap (cleaned p) k.dirty_are ∙ sym stays;
-  clean = λ q none. ap (λ (l : List Dirty). is_some (dirt_of l q)) stays ∙ ap (is_some {T = Dirty}) (cleaned_of (dirty h) p q) ∙ clean q (same_page p q) (k.clean q (sym (same q) ∙ none));
-  logged = λ q d there. logged q d (same_page p q) (sym (cleaned_of (dirty h) p q) ∙ ap (λ (l : List Dirty). dirt_of l q) (sym stays) ∙ there);
-}
-  where
-    clean : (q : PageId) (b : Bool) → is_dirty h q ≡ false → is_some (cond b None (dirt_of (dirty h) q)) ≡ false
-    clean q true was = refl
-    clean q false was = was
-
-    logged : (q : PageId) (d : Dirty) (b : Bool) → cond b None (dirt_of (dirty h) q) ≡ Some d → d.newest ≤ log_end new
-    logged q d true there = absurd (none_some d there)
-    logged q d false there = let was = k.logged q d there in omega (arith, was, ends)
-
 -- What a quiet entry leaves.
 record IsQuiet (k : Kind) : Type 0 where
   pub homes : (p : PageId) (before : Option ℕ) → home_after k p before ≡ before
@@ -361,12 +288,12 @@ leaves (kind.Unwatch p) quiet = record { homes = λ q b. refl; books = λ per e 
 leaves (kind.Dump pct ids) quiet = record { homes = λ q b. refl; books = λ per e b. refl; dirt = λ ds. refl; ends = λ n. refl; orders = λ n o. refl }
 leaves (kind.Refused asked why) quiet = record { homes = λ q b. refl; books = λ per e b. in_time (is_late asked why) b (give_next per b) quiet; dirt = λ ds. refl; ends = λ n. refl; orders = λ n o. refl }
 
-module _ (c : Config) (h : List Entry) (homes : PageId → Option ℕ) (tenants : List PageId) (free : List ℕ) (hand : Option ℕ) (listed : List Dirty) (lru : View) (seats : ℕ)
-    (k : AreKept c h homes tenants free hand listed lru seats) (e : Entry) (place : e.place ≡ mark c.first h + 1) where
+module _ (c : Config) (h : List Entry) (homes : PageId → Option ℕ) (tenants : List PageId) (free : List ℕ) (hand : Option ℕ) (newest : List (Option ℕ)) (flush : Flush) (lru : View) (seats : ℕ)
+    (k : AreKept c h homes tenants free hand newest flush lru seats) (e : Entry) (place : e.place ≡ mark c.first h + 1) where
   placed : e.place ≡ c.first + length (e ∷ h)
   placed = omega (arith, place, k.places)
 
-  pub kept_quiet : is_quiet e.kind ≡ true → AreKept c (e ∷ h) homes tenants free hand listed lru seats
+  pub kept_quiet : is_quiet e.kind ≡ true → AreKept c (e ∷ h) homes tenants free hand newest flush lru seats
   kept_quiet quiet =
       let q = leaves e.kind quiet in
       let same : (p : PageId) → home (e ∷ h) p ≡ home h p = λ p. q.homes p (home h p) in
@@ -376,14 +303,14 @@ module _ (c : Config) (h : List Entry) (homes : PageId → Option ℕ) (tenants 
         homed = homes_on c h (e ∷ h) homes tenants same k.homed;
         booked = book_on c h (e ∷ h) free hand same (q.books c.frames e (book c h)) k.booked;
         used = used_on c h (e ∷ h) tenants (in_turn hand free) same k.used;
-        soiled = dirt_on h (e ∷ h) listed same (q.dirt (dirty h)) (q.ends (log_end h)) k.soiled;
+        soiled = dirt_on c h homes tenants newest flush k.homed k.soiled (e ∷ h) same (q.dirt (dirty h)) (q.ends (log_end h));
         ordered = order_on c h homes tenants lru k.homed k.ordered e same (q.orders (numbers_of c) (order c h));
         frames = k.frames;
         seated = k.seated;
       }
 
   pub kept_fix : (p : PageId) (f clock now : ℕ) → e.kind ≡ kind.Fix p f clock now → home h p ≡ Some f
-      → AreKept c (e ∷ h) homes tenants free hand listed (record lru { order = touch ◌==◌ lru.numbers f now lru.order }) seats
+      → AreKept c (e ∷ h) homes tenants free hand newest flush (record lru { order = touch ◌==◌ lru.numbers f now lru.order }) seats
   kept_fix p f clock now is here =
       let same : (q : PageId) → home (e ∷ h) q ≡ home h q = λ q. ap (λ (x : Kind). home_after x q (home h q)) is in
       record {
@@ -392,46 +319,52 @@ module _ (c : Config) (h : List Entry) (homes : PageId → Option ℕ) (tenants 
         homed = homes_on c h (e ∷ h) homes tenants same k.homed;
         booked = book_on c h (e ∷ h) free hand same (ap (λ (x : Kind). book_after c.frames e x (book c h)) is) k.booked;
         used = used_on c h (e ∷ h) tenants (in_turn hand free) same k.used;
-        soiled = dirt_on h (e ∷ h) listed same (ap (λ (x : Kind). dirty_after x (dirty h)) is) (ap (λ (x : Kind). log_end_after x (log_end h)) is) k.soiled;
+        soiled = dirt_on c h homes tenants newest flush k.homed k.soiled (e ∷ h) same (ap (λ (x : Kind). dirty_after x (dirty h)) is) (ap (λ (x : Kind). log_end_after x (log_end h)) is);
         ordered = order_fix c h homes tenants lru k.homed k.ordered e p f clock now is here;
         frames = k.frames;
         seated = k.seated;
       }
 
-  pub kept_put : (p : PageId) (at : ℕ) (bytes : List ℕ) (start end : ℕ) → e.kind ≡ kind.Put p at bytes start end → log_end h ≤ end → IsSome (home h p)
-      → AreKept c (e ∷ h) homes tenants free hand (dirtied p start end listed) lru seats
-  kept_put p at bytes start end is ahead resident =
-      let same : (q : PageId) → home (e ∷ h) q ≡ home h q = λ q. ap (λ (x : Kind). home_after x q (home h q)) is in
-      record {
-        one = k.one;
-        places = placed;
-        homed = homes_on c h (e ∷ h) homes tenants same k.homed;
-        booked = book_on c h (e ∷ h) free hand same (ap (λ (x : Kind). book_after c.frames e x (book c h)) is) k.booked;
-        used = used_on c h (e ∷ h) tenants (in_turn hand free) same k.used;
-        soiled = dirt_put h (e ∷ h) listed p start end same (ap (λ (x : Kind). dirty_after x (dirty h)) is) (ap (λ (x : Kind). log_end_after x (log_end h)) is) ahead resident k.soiled;
-        ordered = order_on c h homes tenants lru k.homed k.ordered e same (ap (λ (x : Kind). order_after (numbers_of c) x (order c h)) is);
-        frames = k.frames;
-        seated = k.seated;
-      }
+  -- an entry that leaves all lists but that of dirty pages
+  kept_dirt : (more : List (Option ℕ)) (flushed : Flush) → ((q : PageId) → home (e ∷ h) q ≡ home h q) → book c (e ∷ h) ≡ book c h → order c (e ∷ h) ≡ order c h
+      → KeepsDirty c (e ∷ h) more flushed → AreKept c (e ∷ h) homes tenants free hand more flushed lru seats
+  kept_dirt more flushed same books orders soiled = record {
+    one = k.one;
+    places = placed;
+    homed = homes_on c h (e ∷ h) homes tenants same k.homed;
+    booked = book_on c h (e ∷ h) free hand same books k.booked;
+    used = used_on c h (e ∷ h) tenants (in_turn hand free) same k.used;
+    soiled = soiled;
+    ordered = order_on c h homes tenants lru k.homed k.ordered e same orders;
+    frames = k.frames;
+    seated = k.seated;
+  }
 
-  pub kept_write : (p : PageId) (lsn upto : ℕ) → e.kind ≡ kind.Write p lsn upto → AreKept c (e ∷ h) homes tenants free hand (cleaned p listed) lru seats
-  kept_write p lsn upto is =
+  pub kept_put : (p : PageId) (f at : ℕ) (bytes : List ℕ) (start end : ℕ) → e.kind ≡ kind.Put p at bytes start end → home h p ≡ Some f → log_end h ≤ start → start ≤ end
+      → AreKept c (e ∷ h) homes tenants free hand (set newest f (Some end)) (after_change f start (newest_in newest f) flush) lru seats
+  kept_put p f at bytes start end is here ahead rises =
       let same : (q : PageId) → home (e ∷ h) q ≡ home h q = λ q. ap (λ (x : Kind). home_after x q (home h q)) is in
-      record {
-        one = k.one;
-        places = placed;
-        homed = homes_on c h (e ∷ h) homes tenants same k.homed;
-        booked = book_on c h (e ∷ h) free hand same (ap (λ (x : Kind). book_after c.frames e x (book c h)) is) k.booked;
-        used = used_on c h (e ∷ h) tenants (in_turn hand free) same k.used;
-        soiled = dirt_write h (e ∷ h) listed p same (ap (λ (x : Kind). dirty_after x (dirty h)) is) (ap (λ (x : Kind). log_end_after x (log_end h)) is) k.soiled;
-        ordered = order_on c h homes tenants lru k.homed k.ordered e same (ap (λ (x : Kind). order_after (numbers_of c) x (order c h)) is);
-        frames = k.frames;
-        seated = k.seated;
-      }
+      kept_dirt (set newest f (Some end)) (after_change f start (newest_in newest f) flush) same (ap (λ (x : Kind). book_after c.frames e x (book c h)) is)
+      (ap (λ (x : Kind). order_after (numbers_of c) x (order c h)) is)
+      (dirt_put c h homes tenants newest flush k.homed k.soiled (e ∷ h) p f start end same (ap (λ (x : Kind). dirty_after x (dirty h)) is) (ap (λ (x : Kind). log_end_after x (log_end h)) is) here ahead rises)
+
+  pub kept_write : (p : PageId) (f lsn upto : ℕ) → e.kind ≡ kind.Write p lsn upto → home h p ≡ Some f
+      → AreKept c (e ∷ h) homes tenants free hand (set newest f None) (after_write f (newest_in newest f) flush) lru seats
+  kept_write p f lsn upto is here =
+      let same : (q : PageId) → home (e ∷ h) q ≡ home h q = λ q. ap (λ (x : Kind). home_after x q (home h q)) is in
+      kept_dirt (set newest f None) (after_write f (newest_in newest f) flush) same (ap (λ (x : Kind). book_after c.frames e x (book c h)) is)
+      (ap (λ (x : Kind). order_after (numbers_of c) x (order c h)) is)
+      (dirt_write c h homes tenants newest flush k.homed k.soiled (e ∷ h) p f same (ap (λ (x : Kind). dirty_after x (dirty h)) is) (ap (λ (x : Kind). log_end_after x (log_end h)) is) here)
+
+  pub kept_write_away : (p : PageId) (lsn upto : ℕ) → e.kind ≡ kind.Write p lsn upto → home h p ≡ None → AreKept c (e ∷ h) homes tenants free hand newest flush lru seats
+  kept_write_away p lsn upto is absent =
+      let same : (q : PageId) → home (e ∷ h) q ≡ home h q = λ q. ap (λ (x : Kind). home_after x q (home h q)) is in
+      kept_dirt newest flush same (ap (λ (x : Kind). book_after c.frames e x (book c h)) is) (ap (λ (x : Kind). order_after (numbers_of c) x (order c h)) is)
+      (dirt_write_away c h homes tenants newest flush k.homed k.soiled (e ∷ h) p same (ap (λ (x : Kind). dirty_after x (dirty h)) is) (ap (λ (x : Kind). log_end_after x (log_end h)) is) absent)
 
   pub kept_load : (p : PageId) (f : ℕ) (more : PageId → Option ℕ) (rest : List ℕ) → e.kind ≡ kind.Load p f → home h p ≡ None → in_turn hand free ≡ f ∷ rest
       → ((q : PageId) → more q ≡ cond (same_page p q) (Some f) (homes q))
-      → AreKept c (e ∷ h) more (set tenants f p) rest None listed (record lru { order = read_in lru.numbers f lru.order }) seats
+      → AreKept c (e ∷ h) more (set tenants f p) rest None newest flush (record lru { order = read_in lru.numbers f lru.order }) seats
   kept_load p f more rest is absent turn grown =
       let after : (q : PageId) → home (e ∷ h) q ≡ cond (same_page p q) (Some f) (home h q) = λ q. ap (λ (x : Kind). home_after x q (home h q)) is in
       let none : IsVacant h f = vacant_from c h free hand f rest k.booked turn in
@@ -443,7 +376,7 @@ module _ (c : Config) (h : List Entry) (homes : PageId → Option ℕ) (tenants 
         homed = homes_load c h (e ∷ h) homes more tenants p f after grown frames.0 none k.homed;
         booked = book_load c h (e ∷ h) free rest hand p f after (ap (λ (x : Kind). book_after c.frames e x (book c h)) is) turn k.booked;
         used = used_load c h (e ∷ h) tenants p f rest after absent (omega (arith, frames.0, k.homed.tenant_count)) (subst (λ (l : List ℕ). AreOthersUsed c h tenants l) turn k.used);
-        soiled = dirt_load h (e ∷ h) listed p f after (ap (λ (x : Kind). dirty_after x (dirty h)) is) (ap (λ (x : Kind). log_end_after x (log_end h)) is) k.soiled;
+        soiled = dirt_load c h homes tenants newest flush k.homed k.soiled (e ∷ h) p f after (ap (λ (x : Kind). dirty_after x (dirty h)) is) (ap (λ (x : Kind). log_end_after x (log_end h)) is) absent none;
         ordered = order_load c h homes tenants lru k.homed k.ordered e p f is absent none frames.0;
         frames = k.frames;
         seated = omega (arith, long, k.seated);
@@ -451,7 +384,7 @@ module _ (c : Config) (h : List Entry) (homes : PageId → Option ℕ) (tenants 
 
   pub kept_evict : (p : PageId) (f : ℕ) (passed : List (ℕ × Word)) (less : PageId → Option ℕ) → e.kind ≡ kind.Evict p f passed → home h p ≡ Some f → is_dirty h p ≡ false → in_turn hand free ≡ []
       → ((q : PageId) → less q ≡ cond (same_page p q) None (homes q))
-      → AreKept c (e ∷ h) less tenants free (Some f) listed (record lru { order = evict ◌==◌ f lru.order }) seats
+      → AreKept c (e ∷ h) less tenants free (Some f) newest flush (record lru { order = evict ◌==◌ f lru.order }) seats
   kept_evict p f passed less is here clean turn left =
       let after : (q : PageId) → home (e ∷ h) q ≡ cond (same_page p q) None (home h q) = λ q. ap (λ (x : Kind). home_after x q (home h q)) is in
       let below = k.homed.housed p f here in
@@ -462,14 +395,14 @@ module _ (c : Config) (h : List Entry) (homes : PageId → Option ℕ) (tenants 
         homed = homes_evict c h (e ∷ h) homes less tenants p after left k.homed;
         booked = book_evict c h (e ∷ h) homes tenants free hand e p f passed after (ap (λ (x : Kind). book_after c.frames e x (book c h)) is) turn here k.homed k.booked;
         used = used_evict c h (e ∷ h) tenants p f free after here (subst (λ (l : List ℕ). AreOthersUsed c h tenants l) turn k.used);
-        soiled = dirt_evict h (e ∷ h) listed p after (ap (λ (x : Kind). dirty_after x (dirty h)) is) (ap (λ (x : Kind). log_end_after x (log_end h)) is) clean k.soiled;
+        soiled = dirt_evict c h homes tenants newest flush k.homed k.soiled (e ∷ h) p f after (ap (λ (x : Kind). dirty_after x (dirty h)) is) (ap (λ (x : Kind). log_end_after x (log_end h)) is) here clean;
         ordered = order_evict c h homes tenants lru k.homed k.ordered e p f passed is here;
         frames = k.frames;
         seated = omega (arith, short, below, k.frames);
       }
 
   pub kept_late : (asked : Call) (why : Cause) → e.kind ≡ kind.Refused asked why → is_late asked why ≡ true
-      → AreKept c (e ∷ h) homes tenants (drop 1 (in_turn hand free) ++ take 1 (in_turn hand free)) None listed lru seats
+      → AreKept c (e ∷ h) homes tenants (drop 1 (in_turn hand free) ++ take 1 (in_turn hand free)) None newest flush lru seats
   kept_late asked why is late =
       let same : (q : PageId) → home (e ∷ h) q ≡ home h q = λ q. ap (λ (x : Kind). home_after x q (home h q)) is in
       let gave : book c (e ∷ h) ≡ give_next c.frames (book c h) = ap (λ (x : Kind). book_after c.frames e x (book c h)) is ∙ ap (λ (b : Bool). cond b (give_next c.frames (book c h)) (book c h)) late in
@@ -479,7 +412,7 @@ module _ (c : Config) (h : List Entry) (homes : PageId → Option ℕ) (tenants 
         homed = homes_on c h (e ∷ h) homes tenants same k.homed;
         booked = book_late c h (e ∷ h) free hand same gave k.booked;
         used = used_late c h (e ∷ h) tenants (in_turn hand free) same k.used;
-        soiled = dirt_on h (e ∷ h) listed same (ap (λ (x : Kind). dirty_after x (dirty h)) is) (ap (λ (x : Kind). log_end_after x (log_end h)) is) k.soiled;
+        soiled = dirt_on c h homes tenants newest flush k.homed k.soiled (e ∷ h) same (ap (λ (x : Kind). dirty_after x (dirty h)) is) (ap (λ (x : Kind). log_end_after x (log_end h)) is);
         ordered = order_on c h homes tenants lru k.homed k.ordered e same (ap (λ (x : Kind). order_after (numbers_of c) x (order c h)) is);
         frames = k.frames;
         seated = turned (in_turn hand free) k.seated;
@@ -490,22 +423,23 @@ module _ (c : Config) (h : List Entry) (homes : PageId → Option ℕ) (tenants 
       turned (f ∷ rest) few = omega (arith, few, length-last rest f)
 
 -- lists that are equal to those
-pub kept_as : (c : Config) (h new : List Entry) (homes : PageId → Option ℕ) (tenants : List PageId) (free free' : List ℕ) (hand hand' : Option ℕ) (listed listed' : List Dirty) (lru lru' : View) (seats seats' : ℕ)
-    → new ≡ h → free' ≡ free → hand' ≡ hand → listed' ≡ listed → lru' ≡ lru → seats' ≡ seats
-    → AreKept c h homes tenants free hand listed lru seats → AreKept c new homes tenants free' hand' listed' lru' seats'
-kept_as c h new homes tenants free free' hand hand' listed listed' lru lru' seats seats' same frees hands dirt order room k =
-    let H : List Entry → Type 0 = λ x. AreKept c x homes tenants free' hand' listed' lru' seats' in
-    let F : List ℕ → Type 0 = λ x. AreKept c h homes tenants x hand' listed' lru' seats' in
-    let N : Option ℕ → Type 0 = λ x. AreKept c h homes tenants free x listed' lru' seats' in
-    let D : List Dirty → Type 0 = λ x. AreKept c h homes tenants free hand x lru' seats' in
-    let L : View → Type 0 = λ x. AreKept c h homes tenants free hand listed x seats' in
-    let S : ℕ → Type 0 = λ x. AreKept c h homes tenants free hand listed lru x in
-    subst H (sym same) (subst F (sym frees) (subst N (sym hands) (subst D (sym dirt) (subst L (sym order) (subst S (sym room) k)))))
+pub kept_as : (c : Config) (h new : List Entry) (homes : PageId → Option ℕ) (tenants : List PageId) (free free' : List ℕ) (hand hand' : Option ℕ) (newest newest' : List (Option ℕ)) (flush flush' : Flush) (lru lru' : View) (seats seats' : ℕ)
+    → new ≡ h → free' ≡ free → hand' ≡ hand → newest' ≡ newest → flush' ≡ flush → lru' ≡ lru → seats' ≡ seats
+    → AreKept c h homes tenants free hand newest flush lru seats → AreKept c new homes tenants free' hand' newest' flush' lru' seats'
+kept_as c h new homes tenants free free' hand hand' newest newest' flush flush' lru lru' seats seats' same frees hands marks dirt order room k =
+    let H : List Entry → Type 0 = λ x. AreKept c x homes tenants free' hand' newest' flush' lru' seats' in
+    let F : List ℕ → Type 0 = λ x. AreKept c h homes tenants x hand' newest' flush' lru' seats' in
+    let N : Option ℕ → Type 0 = λ x. AreKept c h homes tenants free x newest' flush' lru' seats' in
+    let M : List (Option ℕ) → Type 0 = λ x. AreKept c h homes tenants free hand x flush' lru' seats' in
+    let D : Flush → Type 0 = λ x. AreKept c h homes tenants free hand newest x lru' seats' in
+    let L : View → Type 0 = λ x. AreKept c h homes tenants free hand newest flush x seats' in
+    let S : ℕ → Type 0 = λ x. AreKept c h homes tenants free hand newest flush lru x in
+    subst H (sym same) (subst F (sym frees) (subst N (sym hands) (subst M (sym marks) (subst D (sym dirt) (subst L (sym order) (subst S (sym room) k))))))
 
 -- a map with the same homes
-pub kept_reordered : (c : Config) (h : List Entry) (homes more : PageId → Option ℕ) (tenants : List PageId) (free : List ℕ) (hand : Option ℕ) (listed : List Dirty) (lru : View) (seats : ℕ)
-    → ((p : PageId) → more p ≡ homes p) → AreKept c h homes tenants free hand listed lru seats → AreKept c h more tenants free hand listed lru seats
-kept_reordered c h homes more tenants free hand listed lru seats same k = record {
+pub kept_reordered : (c : Config) (h : List Entry) (homes more : PageId → Option ℕ) (tenants : List PageId) (free : List ℕ) (hand : Option ℕ) (newest : List (Option ℕ)) (flush : Flush) (lru : View) (seats : ℕ)
+    → ((p : PageId) → more p ≡ homes p) → AreKept c h homes tenants free hand newest flush lru seats → AreKept c h more tenants free hand newest flush lru seats
+kept_reordered c h homes more tenants free hand newest flush lru seats same k = record {
   one = k.one;
   places = k.places;
   homed = record {

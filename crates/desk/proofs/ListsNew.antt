@@ -1,11 +1,15 @@
 -- The lists of an empty history.
-use Rattle.std.proofs.Common.{◌≡◌, ◌==◌, ℕ, zero, suc, List, [], ◌∷◌, ◌++◌, ◌+◌, ◌*◌, ◌<◌, ◌≤◌, Option, None, length, refl, ap, ◌∙◌, sym, subst, arith}
+use Rattle.std.proofs.Common.{◌≡◌, ◌==◌, ℕ, zero, suc, List, [], ◌∷◌, ◌++◌, ◌+◌, ◌*◌, ◌<◌, ◌≤◌, Option, None, length, replicate, refl, ap, ◌∙◌, sym, subst, arith}
+use Rattle.std.proofs.lemmas.List.{length-replicate}
+use Rattle.std.proofs.lemmas.List.Elements.{All-nil}
 use Rattle.page_ids.specs.Chunks.{chunks_of, rising}
 use Rattle.page_ids.specs.Midpoint.{Order, numbers_of, empty_order, under, count_of}
 use Rattle.page_ids.specs.declared.ids.PageId.{PageId}
 use Rattle.page_ids.specs.declared.config.Config.{Config}
 use Rattle.midpoint_lru.specs.View.{View}
-use Rattle.desk.specs.KeptLists.{AreKept, Absent, AreFrames, plain_book, page_in}
+use Rattle.flush_list.specs.View.{View as Flush}
+use Rattle.trail.specs.declared.event.Dirty.{Dirty}
+use Rattle.desk.specs.KeptLists.{AreKept, Absent, AreFrames, plain_book, page_in, newest_in}
 
 rising_push : (from n : ℕ) → rising from (suc n) ≡ rising from n ++ (from + n) ∷ []
 rising_push from zero = let same : from ≡ from + 0 = omega arith in ap (λ (f : ℕ). f ∷ []) same
@@ -35,11 +39,12 @@ present_rising : (f from k : ℕ) → from ≤ f → f < from + k → Absent f (
 present_rising f from zero low high away = omega (arith, low, high)
 present_rising f from (suc k) low high away = present_rising f (from + 1) k (omega (arith, low, away.0)) (omega (arith, high)) away.1
 
-pub kept_new : (c : Config) (homes : PageId → Option ℕ) (tenants : List PageId) (free : List ℕ) (lru : View) (seats : ℕ)
+pub kept_new : (c : Config) (homes : PageId → Option ℕ) (tenants : List PageId) (free : List ℕ) (newest : List (Option ℕ)) (flush : Flush) (lru : View) (seats : ℕ)
     → chunks_of c ≡ 1 → ((p : PageId) → homes p ≡ None) → length tenants ≡ c.frames → free ≡ rising 0 c.frames
     → lru.numbers ≡ numbers_of c → lru.order ≡ empty_order → lru.room ≡ c.frames → c.frames ≤ seats
-    → AreKept c [] homes tenants free None [] lru seats
-kept_new c homes tenants free lru seats one empty count free_is numbers order room more =
+    → newest ≡ replicate c.frames None → flush ≡ record { listed = []; room = c.frames }
+    → AreKept c [] homes tenants free None newest flush lru seats
+kept_new c homes tenants free newest flush lru seats one empty count free_is numbers order room more none listed =
     let F : List ℕ → Type 0 = λ l. AreFrames c.frames l in
     let all : chunks_of c * c.frames ≡ c.frames = ap (λ n. n * c.frames) one ∙ times_one c.frames in
     let long : length free ≡ c.frames = ap (length {A = ℕ}) free_is ∙ length-rising 0 c.frames in
@@ -59,9 +64,13 @@ kept_new c homes tenants free lru seats one empty count free_is numbers order ro
       };
       used = λ f below away. absurd (present_rising f 0 c.frames (omega arith) (omega (arith, below)) (subst (λ (l : List ℕ). Absent f l) free_is away));
       soiled = record {
-        dirty_are = refl;
+        listed_are = ap (λ (v : Flush). v.listed) listed;
+        room_is = ap (λ (v : Flush). v.room) listed;
         clean = λ p e. refl;
-        logged = λ p d e. absurd (cc);
+        newest_are = λ p f e. absurd (cc);
+        vacant = λ f free. ap (λ (l : List (Option ℕ)). newest_in l f) none ∙ none_in c.frames f;
+        newest_count = ap (length {A = Option ℕ}) none ∙ length-replicate c.frames None;
+        logged = All-nil (λ (d : Dirty). (d.oldest ≤ 0) × (d.newest ≤ 0));
       };
       ordered = record {
         numbers_are = numbers;
@@ -76,6 +85,11 @@ kept_new c homes tenants free lru seats one empty count free_is numbers order ro
   where
     times_one : (n : ℕ) → 1 * n ≡ n
     times_one n = omega arith
+
+    none_in : (n f : ℕ) → newest_in (replicate n None) f ≡ None
+    none_in zero f = refl
+    none_in (suc n) zero = refl
+    none_in (suc n) (suc f) = none_in n f
 
     places : (n : ℕ) → n ≡ n + 0
     places n = omega arith

@@ -1,5 +1,5 @@
 -- The LRU list of frames stays the history's list of pages under other names.
-use Rattle.std.proofs.Common.{◌≡◌, ◌≢◌, ◌∙◌, ◌==◌, ◌<◌, ℕ, Bool, true, false, cond, List, ◌∷◌, length, get_or, set, Option, Some, None, refl, sym, ap, subst, arith, inl, inr}
+use Rattle.std.proofs.Common.{◌≡◌, ◌≢◌, ◌∙◌, ◌==◌, ◌<◌, ◌≤◌, ℕ, Bool, true, false, cond, List, ◌∷◌, length, get_or, set, Option, Some, None, refl, sym, ap, subst, arith, inl, inr}
 use Rattle.std.specs.Option.{option_map_or}
 use Rattle.std.proofs.lemmas.List.{get_or-set_same, get_or-set_other}
 use Rattle.std.proofs.lemmas.List.Sums.{passes_at_first}
@@ -105,24 +105,29 @@ module _ (c : Config) (h : List Entry) (homes : PageId → Option ℕ) (tenants 
     evicts = omega (arith, k.evicts);
   }
 
-  pub order_fix : (e : Entry) (p : PageId) (f clock now : ℕ) → e.kind ≡ kind.Fix p f clock now → home h p ≡ Some f
-      → KeepsOrder c (e ∷ h) tenants (record lru { order = touch ◌==◌ lru.numbers f now lru.order })
-  order_fix e p f clock now is here =
+  -- a longer history in which a resident page was touched
+  pub order_touch : (new : List Entry) (p : PageId) (f now : ℕ) → ((q : PageId) → home new q ≡ home h q) → order c new ≡ touch same_page (numbers_of c) p now (order c h) → length h ≤ length new
+      → home h p ≡ Some f → KeepsOrder c new tenants (record lru { order = touch ◌==◌ lru.numbers f now lru.order })
+  order_touch new p f now same touched longer here =
       let o = lru.order in
       let page : p ≡ page_in tenants f = sym (homed.tenants_are p f here) in
-      let same : (q : PageId) → home (e ∷ h) q ≡ home h q = λ q. ap (λ (x : Kind). home_after x q (home h q)) is in
       record {
         numbers_are = k.numbers_are;
         room_is = k.room_is;
-        order_is = ap (λ (x : Kind). order_after (numbers_of c) x (order c h)) is
+        order_is = touched
             ∙ ap (touch same_page (numbers_of c) p now) k.order_is
             ∙ ap (λ (n : Numbers). touch same_page n p now (under (page_in tenants) o)) (sym k.numbers_are)
             ∙ ap (λ (q : PageId). touch same_page lru.numbers q now (under (page_in tenants) o)) page
             ∙ sym (touch-under ◌==◌ same_page (page_in tenants) lru.numbers f now o (told_apart p f here));
         counted = λ g. count-touch ◌==◌ (λ m. m == g) lru.numbers f now o ∙ k.counted g
             ∙ sym (ap (λ (o : Option ℕ). cond {A = ℕ} (is_frame o g) 1 0) (same (page_in tenants g)));
-        evicts = omega (arith, k.evicts);
+        evicts = omega (arith, k.evicts, longer);
       }
+
+  pub order_fix : (e : Entry) (p : PageId) (f clock now : ℕ) → e.kind ≡ kind.Fix p f clock now → home h p ≡ Some f
+      → KeepsOrder c (e ∷ h) tenants (record lru { order = touch ◌==◌ lru.numbers f now lru.order })
+  order_fix e p f clock now is here =
+      order_touch (e ∷ h) p f now (λ q. ap (λ (x : Kind). home_after x q (home h q)) is) (ap (λ (x : Kind). order_after (numbers_of c) x (order c h)) is) (omega arith) here
 
   -- a frame's count after a page came into f or left it
   other_home : (b : Bool) (o was : Option ℕ) (g : ℕ) → (b ≡ true → is_frame was g ≡ is_frame o g) → is_frame (cond b o was) g ≡ is_frame was g

@@ -1,30 +1,29 @@
 -- What the calls that read the lists answer: a walk over frames is one over their pages.
-use Rattle.std.proofs.Common.{◌≡◌, ◌∙◌, ◌==◌, ◌+◌, ◌*◌, ◌-◌, ◌<◌, ◌≤◌, ℕ, zero, suc, Bool, true, false, not, cond, List, [], ◌∷◌, length, Option, Some, None, refl, sym, ap, arith, IfSome, ◌++◌, ◌||◌, subst, get_or, append-nil}
-use Rattle.std.specs.Prelude.{All, map, slice_get, is_some, reverse, filter, unwrap_or}
-use Rattle.std.specs.List.{position_or_len, position, position_from, ItemBy, AllByRecursion, IsDistinct, list_any}
-use Rattle.std.proofs.lemmas.Iterator.Adapters.{position_from-zero}
+use Rattle.std.proofs.Common.{◌≡◌, ◌∙◌, ◌==◌, ◌+◌, ◌*◌, ◌-◌, ◌<◌, ℕ, zero, suc, Bool, true, false, not, cond, List, [], ◌∷◌, length, Option, Some, None, refl, sym, ap, arith, IfSome, ◌++◌, subst, get_or, append-nil}
+use Rattle.std.specs.Prelude.{All, map, slice_get, is_some, reverse, filter}
+use Rattle.std.specs.List.{position_or_len}
 use Rattle.std.specs.Option.{option_map, option_map_or}
-use Rattle.std.proofs.lemmas.List.{append_assoc, length-map, reverse-append}
+use Rattle.std.proofs.lemmas.List.{append_assoc, reverse-append}
 use Rattle.std.proofs.lemmas.List.Sums.{sum_by-cons}
-use Rattle.std.proofs.lemmas.Map.Steps.{length-le_from_distinct_below}
-use Rattle.std.proofs.lemmas.Bool.{ne_eqb, eqb-true}
+use Rattle.std.proofs.lemmas.Bool.{ne_eqb}
 use Rattle.page_ids.specs.Chunks.{chunks_of, rising}
 use Rattle.page_ids.specs.Midpoint.{Listed, Order, rekeyed, count_of}
 use Rattle.page_ids.specs.Same.{same_page}
 use Rattle.page_ids.specs.declared.ids.PageId.{PageId}
 use Rattle.page_ids.specs.declared.config.Config.{Config}
 use Rattle.midpoint_lru.specs.View.{View, Has, next_up}
-use Rattle.trail.specs.declared.event.Dirty.{Dirty}
+use Rattle.flush_list.specs.View.{View as Flush}
 use Rattle.trail.specs.declared.event.Entry.{Entry}
 use Rattle.trail.specs.Book.{Book, book, next_frame}
-use Rattle.trail.specs.Dirt.{dirty, dirt_of, log_end}
+use Rattle.trail.specs.Dirt.{dirty, log_end}
 use Rattle.trail.specs.Order.{order}
 use Rattle.trail.specs.Victim.{from_the_tail, frames_there, is_in}
 use Rattle.trail.specs.History.{home}
 use Rattle.desk.specs.Ledger.{IsVacant}
-use Rattle.desk.specs.KeptLists.{AreKept, KeepsHomes, KeepsDirty, KeepsOrder, Absent, in_turn, page_in}
+use Rattle.desk.specs.KeptLists.{AreKept, KeepsHomes, KeepsOrder, Absent, in_turn, page_in}
 use Rattle.desk.specs.Walk.{AreOrderly, is_in_frame, first_home, next_home}
-use Rattle.desk.proofs.Dirt.{AreApart, dirty_apart, no_way, same_is, same_self}
+use Rattle.desk.proofs.Dirt.{same_is}
+use Rattle.desk.proofs.ListsFlush.{logged_of}
 use Rattle.desk.proofs.ListsKept.{front_is, front_none, next_is, vacant_from}
 use Rattle.desk.proofs.ListsOrder.{listed_home, is_listed, count_home, told_apart}
 
@@ -191,7 +190,7 @@ module _ (c : Config) (h : List Entry) (homes : PageId → Option ℕ) (tenants 
           (λ i d l. ap (same_page (page_in tenants (get_or lru.order.listed i d).key)) (sym (homed.tenants_are p f here)) ∙ told_apart c h homes tenants lru homed k p f here i d l)
           ∙ count_home c h homes tenants lru homed k p f here
 
-module _ (c : Config) (h : List Entry) (homes : PageId → Option ℕ) (tenants : List PageId) (free : List ℕ) (hand : Option ℕ) (listed : List Dirty) (lru : View) (seats : ℕ) (k : AreKept c h homes tenants free hand listed lru seats) where
+module _ (c : Config) (h : List Entry) (homes : PageId → Option ℕ) (tenants : List PageId) (free : List ℕ) (hand : Option ℕ) (newest : List (Option ℕ)) (flush : Flush) (lru : View) (seats : ℕ) (k : AreKept c h homes tenants free hand newest flush lru seats) where
   alone : (p q : PageId) (f : ℕ) → home h p ≡ Some f → home h q ≡ Some f → q ≡ p
   alone p q f here there = sym (k.homed.tenants_are q f there) ∙ k.homed.tenants_are p f here
 
@@ -200,7 +199,7 @@ module _ (c : Config) (h : List Entry) (homes : PageId → Option ℕ) (tenants 
     listed = listed_once c h homes tenants lru k.homed k.ordered;
     alone = alone;
     below = k.homed.housed;
-    logged = k.soiled.logged;
+    logged = λ p d. logged_of (dirty h) (log_end h) p d k.soiled.logged;
     no_area = ap (λ (b : Book). b.area) k.booked.book_is;
     there = ap (frames_there c.frames) k.booked.book_is ∙ none_out (rising 0 (chunks_of c * c.frames)) ∙ ap (rising 0) chunk;
   }
@@ -221,71 +220,6 @@ module _ (c : Config) (h : List Entry) (homes : PageId → Option ℕ) (tenants 
       let turn = front_none (in_turn hand free) (sym (next_is c h free hand k.booked) ∙ sym is ∙ none) in
       (page_in tenants f, k.used f below (subst (λ (l : List ℕ). Absent f l) (sym turn) tt))
 
-  -- Dirty pages have a frame each.
-  abbrev AreHoused : List Dirty → Type 0
-  AreHoused ds = (p : PageId) → is_some (dirt_of ds p) ≡ true → (f : ℕ) × (home h p ≡ Some f)
-
-  abbrev frames_of : List Dirty → List ℕ
-  frames_of ds = map (λ (d : Dirty). unwrap_or (home h d.page) 0) ds
-
-  housed_all : AreHoused (dirty h)
-  housed_all p is = by_home (home h p) refl
-    where
-      by_home : (o : Option ℕ) → home h p ≡ o → (f : ℕ) × (home h p ≡ Some f)
-      by_home None none = absurd (no_way (sym is ∙ k.soiled.clean p none))
-      by_home (Some f) here = (f, here)
-
-  housed_first : (d : Dirty) (ds : List Dirty) → AreHoused (d ∷ ds) → home h d.page ≡ Some (unwrap_or (home h d.page) 0)
-  housed_first d ds all =
-      let there = all d.page (ap (λ (b : Bool). is_some (cond b (Some d) (dirt_of ds d.page))) (same_self d.page)) in
-      there.1 ∙ ap (λ (o : Option ℕ). Some (unwrap_or o 0)) (sym there.1)
-
-  housed_rest : (d : Dirty) (ds : List Dirty) → AreHoused (d ∷ ds) → AreHoused ds
-  housed_rest d ds all p is = all p (by_test (same_page d.page p))
-    where
-      by_test : (b : Bool) → is_some (cond b (Some d) (dirt_of ds p)) ≡ true
-      by_test true = refl
-      by_test false = is
-
-  -- the frame of a page that is not among the dirty ones is not among theirs
-  none_same : (p : PageId) (f : ℕ) (ds : List Dirty) → home h p ≡ Some f → dirt_of ds p ≡ None → AreHoused ds → AllByRecursion (λ g. (f == g) ≡ false) (frames_of ds)
-  none_same p f [] here none all = tt
-  none_same p f (d ∷ ds) here none all =
-      by_test (same_page d.page p) refl none (λ next. none_same p f ds here next (housed_rest d ds all))
-    where
-      by_test : (b : Bool) → same_page d.page p ≡ b → cond b (Some d) (dirt_of ds p) ≡ None
-          → (dirt_of ds p ≡ None → AllByRecursion (λ g. (f == g) ≡ false) (frames_of ds))
-          → AllByRecursion (λ g. (f == g) ≡ false) (frames_of (d ∷ ds))
-      by_test true same none next = let bad : Some d ≡ None = none in absurd (cc)
-      by_test false same none next =
-          (ne_eqb f (unwrap_or (home h d.page) 0) (λ e. no_way (sym (one (sym e)) ∙ same)), next none)
-        where
-          one : unwrap_or (home h d.page) 0 ≡ f → same_page d.page p ≡ true
-          one e = ap (λ (q : PageId). same_page q p) (alone p d.page f here (housed_first d ds all ∙ ap (λ (m : ℕ). Some m) e)) ∙ same_self p
-
-  frames_apart : (ds : List Dirty) → AreApart ds → AreHoused ds → IsDistinct ◌==◌ (frames_of ds)
-  unfolding IsDistinct
-  frames_apart [] apart all = tt
-  frames_apart (d ∷ ds) apart all =
-      (none_same d.page (unwrap_or (home h d.page) 0) ds (housed_first d ds all) apart.0 (housed_rest d ds all), frames_apart ds apart.1 (housed_rest d ds all))
-
-  frames_below : (ds : List Dirty) → AreHoused ds → (f : ℕ) → list_any (λ g. f == g) (frames_of ds) ≡ true → f < c.frames
-  frames_below [] all f is = absurd (no_way (sym is))
-  frames_below (d ∷ ds) all f is = by_test (λ any. frames_below ds (housed_rest d ds all) f any) (f == unwrap_or (home h d.page) 0) refl is
-    where
-      by_test : (list_any (λ g. f == g) (frames_of ds) ≡ true → f < c.frames) → (b : Bool) → (f == unwrap_or (home h d.page) 0) ≡ b → (b || list_any (λ g. f == g) (frames_of ds)) ≡ true → f < c.frames
-      by_test next true same any =
-          let below = k.homed.housed d.page (unwrap_or (home h d.page) 0) (housed_first d ds all) in
-          let e = eqb-true f (unwrap_or (home h d.page) 0) same in
-          omega (arith, below, e)
-      by_test next false same any = next any
-
-  pub few_dirty : length (dirty h) ≤ c.frames
-  few_dirty =
-      let most = length-le_from_distinct_below (frames_of (dirty h)) c.frames (frames_apart (dirty h) (dirty_apart h) housed_all) (frames_below (dirty h) housed_all) in
-      let same = length-map (dirty h) (λ (d : Dirty). unwrap_or (home h d.page) 0) in
-      omega (arith, most, same)
-
 pub home_below : (o : Option ℕ) (n : ℕ) → ((f : ℕ) → o ≡ Some f → f < n) → IfSome o (λ f. f < n)
 home_below None n all = tt
 home_below (Some f) n all = all f refl
@@ -294,28 +228,3 @@ pub home_only : (c : Config) (h : List Entry) (homes : PageId → Option ℕ) (t
     → IfSome o (λ f. (q : PageId) → home h q ≡ Some f → q ≡ p)
 home_only c h homes tenants p None k e = tt
 home_only c h homes tenants p (Some f) k e = λ q there. sym (k.tenants_are q f there) ∙ k.tenants_are p f (sym e)
-
-pub first_of : {R : Type 0} (now : R → Dirty) (ds : List Dirty) (r : Option R) → ItemBy now ds 0 0 r → IfSome (option_map now r) (λ d. (rest : List Dirty) × (ds ≡ d ∷ rest))
-first_of now [] None item = tt
-first_of now [] (Some x) item = absurd (no_way item.0)
-first_of now (y ∷ ds) None item = tt
-first_of now (y ∷ ds) (Some x) item = (ds, ap (λ (z : Dirty). z ∷ ds) (sym item.1))
-
-pub first_logged : (h : List Entry) (ds : List Dirty) (o : Option Dirty) → KeepsDirty h ds → IfSome o (λ d. (rest : List Dirty) × (ds ≡ d ∷ rest)) → IfSome o (λ d. d.newest ≤ log_end h)
-first_logged h ds None k first = tt
-first_logged h ds (Some d) k first =
-    let here : dirt_of (d ∷ first.0) d.page ≡ Some d = ap (λ (b : Bool). cond b (Some d) (dirt_of first.0 d.page)) (same_self d.page) in
-    k.logged d.page d (ap (λ (l : List Dirty). dirt_of l d.page) (sym k.dirty_are ∙ first.1) ∙ here)
-
--- a page that has a place is dirty
-pub placed_dirty : (ds : List Dirty) (p : PageId) → is_some (position (λ (d : Dirty). same_page d.page p) ds) ≡ is_some (dirt_of ds p)
-placed_dirty ds p = ap (is_some {T = ℕ}) (position_from-zero (λ (d : Dirty). same_page d.page p) ds) ∙ from 0 ds
-  where
-    from : (n : ℕ) (ds : List Dirty) → is_some (position_from (λ (d : Dirty). same_page d.page p) n ds) ≡ is_some (dirt_of ds p)
-    from n [] = refl
-    from n (d ∷ ds) = by_test (same_page d.page p) (from (n + 1) ds)
-      where
-        by_test : (b : Bool) → is_some (position_from (λ (d : Dirty). same_page d.page p) (n + 1) ds) ≡ is_some (dirt_of ds p)
-            → is_some (cond b (Some n) (position_from (λ (d : Dirty). same_page d.page p) (n + 1) ds)) ≡ is_some (cond b (Some d) (dirt_of ds p))
-        by_test true next = refl
-        by_test false next = next

@@ -3,10 +3,7 @@ use Rattle.std.proofs.Common.{◌≡◌, ◌≤◌, ◌+◌, ◌++◌, ℕ, List
 use Rattle.std.specs.Int.{w16, w32, to_be_bytes}
 use Rattle.redo_mark.specs.Logs.{Seen, Holds, IsLater, Grows}
 use Rattle.redo_mark.specs.Records.{head_of}
-use Rattle.page_ids.specs.Size.{page_bytes}
 use Rattle.page_ids.specs.declared.ids.PageId.{PageId}
-use Rattle.page_ids.specs.declared.ids.PageSize.{PageSize}
-use Rattle.page_ids.specs.declared.ids.PageSize.TheVariants as size
 use Rattle.trail.specs.declared.event.Cause.{Cause}
 use Rattle.trail.specs.declared.event.Cause.TheVariants as cause
 use Rattle.trail.specs.declared.event.Entry.{Entry}
@@ -83,12 +80,6 @@ kind_later old new (kind.Refused asked why) later is = cause_later old new why l
 pub logged_later : (old new : Seen) (h : List Entry) → IsLater old new → IsLogged old h → IsLogged new h
 logged_later old new [] later logged = tt
 logged_later old new (e ∷ h) later logged = (kind_later old new e.kind later logged.0, logged_later old new h later logged.1)
-
--- a page has less than 2^16 bytes
-pub small_page : (s : PageSize) → page_bytes s ≤ 16384
-small_page size.Kib4 = omega arith
-small_page size.Kib8 = omega arith
-small_page size.Kib16 = omega arith
 
 -- all of a put's record but its end LSN
 pub length-put : (p : PageId) (at : ℕ) (bytes : List ℕ) → length (head_of (put_change p at bytes)) ≡ 13 + length bytes

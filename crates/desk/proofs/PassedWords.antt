@@ -190,9 +190,6 @@ times_in f xs = count_by (λ (x : ℕ × Word). x.0 == f) xs
 times_cons : (f : ℕ) (x : ℕ × Word) (xs : List (ℕ × Word)) → times_in f (x ∷ xs) ≡ one (x.0 == f) + times_in f xs
 times_cons f x xs = sum_by-cons (λ (y : ℕ × Word). one (y.0 == f)) x xs
 
-same_frames : (a b : ℕ) → Some a ≡ Some b → a ≡ b
-same_frames a b e = cc
-
 one_most : (b : Bool) → one b ≤ 1
 one_most true = omega arith
 one_most false = omega arith

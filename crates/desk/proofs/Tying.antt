@@ -37,7 +37,7 @@ use Rattle.desk.proofs.Rows.{row_here, row_else, each_row, set_twice, set_same, 
 use Rattle.desk.proofs.Loading.{inside_below, visiting, loaded, IsBased, behind_laid, behind_refused, behind_fixed, behind_loaded}
 
 -- the history that a desk's frames tell, where they tell one
-abbrev history_of : Config → ℕ → List Entry → History
+abbrev pub history_of : Config → ℕ → List Entry → History
 history_of c n h = record { config = c; instance = n; entries = h }
 
 never : (b : Bool) → (b && false) ≡ false
@@ -76,42 +76,46 @@ laid_again s f c image =
     ∙ ap (λ (rows : List Row). record s { rows = rows }) (set_same s.rows f)
 
 -- resident pages lie in their spaces as an entry comes
-pub come_inside : (spaces : ℕ → Option ℕ) (l : Ledger) (h : List Entry) (k : Kind) → MayCome l k → ((p : PageId) (f : ℕ) → k ≡ kind.Load p f → IsInside spaces p) → AreInside spaces h
-    → (p : PageId) (f : ℕ) → home_after k p (home h p) ≡ Some f → IsInside spaces p
-come_inside spaces l h (kind.Load q g) may new inside p f here = go (same_page q p) refl here
+pub come_inside : (spaces : ℕ → Option ℕ) (l : Ledger) (h : List Entry) (k : Kind) → MayCome l k → ((p : PageId) (f : ℕ) → k ≡ kind.Load p f → IsInside spaces p)
+    → ((p : PageId) (f start end now : ℕ) → k ≡ kind.Create p f start end now → IsInside spaces p) → AreInside spaces h → (p : PageId) (f : ℕ) → home_after k p (home h p) ≡ Some f → IsInside spaces p
+come_inside spaces l h (kind.Load q g) may new made inside p f here = go (same_page q p) refl here
   where
     go : (b : Bool) → same_page q p ≡ b → cond b (Some g) (home h p) ≡ Some f → IsInside spaces p
     go true same here = subst (λ (r : PageId). IsInside spaces r) (same_is q p same) (new q g refl)
     go false other here = inside p f here
-come_inside spaces l h (kind.Fix q g clock now) may new inside p f here = inside p f here
-come_inside spaces l h (kind.Create q g start end now) may new inside p f here = absurd may
-come_inside spaces l h (kind.Put q at bytes start end) may new inside p f here = inside p f here
-come_inside spaces l h (kind.Evict q g passed) may new inside p f here = go (same_page q p) here
+come_inside spaces l h (kind.Fix q g clock now) may new made inside p f here = inside p f here
+come_inside spaces l h (kind.Create q g start end now) may new made inside p f here = go (same_page q p) refl here
+  where
+    go : (b : Bool) → same_page q p ≡ b → cond b (Some g) (home h p) ≡ Some f → IsInside spaces p
+    go true same here = subst (λ (r : PageId). IsInside spaces r) (same_is q p same) (made q g start end now refl)
+    go false other here = inside p f here
+come_inside spaces l h (kind.Put q at bytes start end) may new made inside p f here = inside p f here
+come_inside spaces l h (kind.Evict q g passed) may new made inside p f here = go (same_page q p) here
   where
     go : (b : Bool) → cond b None (home h p) ≡ Some f → IsInside spaces p
     go true here = absurd (cc)
     go false here = inside p f here
-come_inside spaces l h (kind.Write q lsn upto) may new inside p f here = inside p f here
-come_inside spaces l h (kind.Move q from to) may new inside p f here = absurd may
-come_inside spaces l h (kind.Withdraw from) may new inside p f here = absurd may
-come_inside spaces l h (kind.Undo from) may new inside p f here = absurd may
-come_inside spaces l h (kind.Shrink chunks) may new inside p f here = absurd may
-come_inside spaces l h (kind.Grow chunks) may new inside p f here = absurd may
-come_inside spaces l h (kind.Resize bytes chunks) may new inside p f here = absurd may
-come_inside spaces l h (kind.Clean written skipped) may new inside p f here = inside p f here
-come_inside spaces l h (kind.Check lsn) may new inside p f here = absurd may
-come_inside spaces l h (kind.WatchSet q) may new inside p f here = absurd may
-come_inside spaces l h (kind.WatchAt q g) may new inside p f here = absurd may
-come_inside spaces l h (kind.Occurred q arrived) may new inside p f here = absurd may
-come_inside spaces l h (kind.Unwatch q) may new inside p f here = absurd may
-come_inside spaces l h (kind.Dump pct ids) may new inside p f here = absurd may
-come_inside spaces l h (kind.Refused asked why) may new inside p f here = inside p f here
+come_inside spaces l h (kind.Write q lsn upto) may new made inside p f here = inside p f here
+come_inside spaces l h (kind.Move q from to) may new made inside p f here = absurd may
+come_inside spaces l h (kind.Withdraw from) may new made inside p f here = absurd may
+come_inside spaces l h (kind.Undo from) may new made inside p f here = absurd may
+come_inside spaces l h (kind.Shrink chunks) may new made inside p f here = absurd may
+come_inside spaces l h (kind.Grow chunks) may new made inside p f here = absurd may
+come_inside spaces l h (kind.Resize bytes chunks) may new made inside p f here = absurd may
+come_inside spaces l h (kind.Clean written skipped) may new made inside p f here = inside p f here
+come_inside spaces l h (kind.Check lsn) may new made inside p f here = inside p f here
+come_inside spaces l h (kind.WatchSet q) may new made inside p f here = absurd may
+come_inside spaces l h (kind.WatchAt q g) may new made inside p f here = absurd may
+come_inside spaces l h (kind.Occurred q arrived) may new made inside p f here = absurd may
+come_inside spaces l h (kind.Unwatch q) may new made inside p f here = absurd may
+come_inside spaces l h (kind.Dump pct ids) may new made inside p f here = absurd may
+come_inside spaces l h (kind.Refused asked why) may new made inside p f here = inside p f here
 
-held_none : (held : Option ℕ) → option_map (λ (n : ℕ). n + 1) held ≡ None → held ≡ None
+pub held_none : (held : Option ℕ) → option_map (λ (n : ℕ). n + 1) held ≡ None → held ≡ None
 held_none None e = refl
 held_none (Some n) e = absurd (cc)
 
-reached_none : (held : Option ℕ) (b : Bool) (image : Option (Option Content)) (c : Content) → image ≡ Some (Some c) → reached held b image ≡ Some None → held ≡ None
+pub reached_none : (held : Option ℕ) (b : Bool) (image : Option (Option Content)) (c : Content) → image ≡ Some (Some c) → reached held b image ≡ Some None → held ≡ None
 reached_none None b image c is e = refl
 reached_none (Some n) b image c is e = let bad : Some (Some c) ≡ Some None = sym is ∙ e in absurd (cc)
 
@@ -131,7 +135,7 @@ module _ {D : Type 0} (tells : D → Bool) (told : D → PageId → Option (List
   tied_on old new by k t u a disk seen given = subst (λ (x : State D). Tied t x) (sym (appended_is old new by k a disk))
       (subst (λ (x : FramesSeen). Tied x (made old.config old.instance (next_entry old by k ∷ old.history) old.disk)) (sym seen) given)
 
-  based : (o : Opened) (s : FramesSeen) (base : PageId → Option Content) → o.base ≡ base → s.base ≡ Some base → IsBased o s
+  pub based : (o : Opened) (s : FramesSeen) (base : PageId → Option Content) → o.base ≡ base → s.base ≡ Some base → IsBased o s
   based o s base is told = subst (λ (b : Option (PageId → Option Content)). IfSome b (λ (x : PageId → Option Content). x ≡ o.base)) (sym told) (sym is)
 
   -- the disk is as before
@@ -181,7 +185,7 @@ module _ {D : Type 0} (tells : D → Bool) (told : D → PageId → Option (List
             (λ base is v. (v.0, v.1, behind_laid tells told spaces v.0 desk s f row vacant v.2)) t.valued;
       }
 
-  told_on : (s : FramesSeen) (c : Config) (n : ℕ) (h : List Entry) (e : Entry) → IfSome s.history (λ x. x ≡ history_of c n h)
+  pub told_on : (s : FramesSeen) (c : Config) (n : ℕ) (h : List Entry) (e : Entry) → IfSome s.history (λ x. x ≡ history_of c n h)
       → IfSome (option_map (extended e) s.history) (λ x. x ≡ history_of c n (e ∷ h))
   told_on s c n h e is = told_map s.history (extended e) (λ x. x ≡ history_of c n h) (λ x. x ≡ history_of c n (e ∷ h)) (λ x same. ap (extended e) same) is
 

@@ -1,7 +1,7 @@
 -- The LRU list, walked from the tail.
 use mathlib.Core.Bool.{beq}
 use Rattle.std.proofs.Common.{◌≡◌, ◌<◌, ◌≤◌, ◌+◌, ◌++◌, ◌==◌, ◌⊎◌, inl, inr, ℕ, zero, suc, Bool, true, false, not, cond, List, [], ◌∷◌, Option, None, Some, length, refl, ap, ◌∙◌, sym, subst, arith, if◌then◌else◌, eq-eqb}
-use Rattle.std.specs.Prelude.{is_some, filter, map, reverse, Contains, count_by}
+use Rattle.std.specs.Prelude.{is_some, filter, map, reverse, Contains}
 use Rattle.std.specs.Option.{option_map_or}
 use Rattle.std.proofs.lemmas.Bool.{eqb-true}
 use Rattle.std.proofs.lemmas.List.{reverse-append}
@@ -213,9 +213,6 @@ part_more test p done = Rattle.std.proofs.lemmas.List.Elements.filter-append tes
 
 pub test_passes : (test : PageId → Bool) (p : PageId) (ps : List PageId) → test p ≡ true → filter test (p ∷ ps) ≡ p ∷ filter test ps
 test_passes test p ps is = ap (λ (b : Bool). cond b (p ∷ filter test ps) (filter test ps)) is
-
-pub test_fails : (test : PageId → Bool) (p : PageId) (ps : List PageId) → test p ≡ false → filter test (p ∷ ps) ≡ filter test ps
-test_fails test p ps is = ap (λ (b : Bool). cond b (p ∷ filter test ps) (filter test ps)) is
 
 same_kind : (b soiled : Bool) → not (beq b soiled) ≡ false → b ≡ soiled
 same_kind true true is = refl

@@ -1,5 +1,5 @@
 -- What a put does, and what a clean does.
-use Rattle.std.specs.Prelude.{ℕ, zero, suc, List, [], ◌∷◌, ◌≡◌, ◌+◌, ◌-◌, ◌<◌, ◌≤◌, ◌^◌, ◌⊎◌, Bool, true, Option, Some, length, slice_set}
+use Rattle.std.specs.Prelude.{ℕ, zero, suc, List, [], ◌∷◌, ◌≡◌, ◌+◌, ◌-◌, ◌<◌, ◌≤◌, ◌^◌, ◌++◌, ◌⊎◌, Bool, true, Option, Some, length, slice_set, nat_le, if◌then◌else◌, ⊤}
 use Rattle.page_ids.specs.Content.{Content, patched}
 use Rattle.page_ids.specs.Layout.{IsPage}
 use Rattle.page_ids.specs.declared.ids.PageId.{PageId}
@@ -15,6 +15,7 @@ use Rattle.trail.specs.History.{home}
 use Rattle.trail.specs.Dirt.{dirty}
 use Rattle.frame_words.specs.Rows.{Row, Uncovers, unlatched_row}
 use Rattle.desk.specs.Ledger.{entry_behind}
+use Rattle.desk.specs.Logged.{IsUpTo}
 use Rattle.desk.specs.State.{State}
 use Rattle.desk.specs.Steps.{IsAppended, row_in}
 use Rattle.desk.specs.Reads.{RoseWithin}
@@ -73,6 +74,11 @@ abbrev pub IsWriteFault : ℕ → ℕ → ℕ → ℕ → WriteErr → Type 0
 IsWriteFault disk_was disk_is log_was log_is (unwritten.RedoFault before after) = RoseWithin log_was log_is before after
 IsWriteFault disk_was disk_is log_was log_is (unwritten.DiskFault before after) = RoseWithin disk_was disk_is before after
 
+-- the log failed only where this made it needed, and then the disk was not used
+abbrev pub IsForced : {D : Type 0} → D → D → Type 0 → WriteErr → Type 0
+IsForced old new needed (unwritten.RedoFault before after) = needed × (new ≡ old)
+IsForced old new needed (unwritten.DiskFault before after) = ⊤
+
 -- what writes leave of a desk and its disk; no count of faults fell
 pub record LeavesDesk {D : Type 0} (size : D → ℕ) (tells : D → Bool) (spaces : D → ℕ → Option ℕ) (faults : D → ℕ) (old new : State D) : Type 0 where
   pub config : new.config ≡ old.config
@@ -96,6 +102,50 @@ abbrev pub WritesBack : ℕ → Caller → ℕ → List Entry → List Entry →
 WritesBack first by zero old new = new ≡ old
 WritesBack first by (suc n) old new = (mid : List Entry) × WritesBack first by n old mid × IsWriteBack first by mid new
 
+-- how far a log that was durable up to here and ends there is durable behind a cover of an LSN: as it was where that reaches it, else up to its end
+abbrev pub covered_to : ℕ → ℕ → ℕ → ℕ
+covered_to durable end lsn = if nat_le lsn durable then durable else end
+
+-- and behind an entry: a write covered its page's LSN
+abbrev pub mark_at : ℕ → ℕ → Kind → ℕ
+mark_at durable end (kind.Load p f) = durable
+mark_at durable end (kind.Fix p f clock now) = durable
+mark_at durable end (kind.Create p f start last now) = durable
+mark_at durable end (kind.Put p at bytes start last) = durable
+mark_at durable end (kind.Evict p f passed) = durable
+mark_at durable end (kind.Write p lsn upto) = covered_to durable end lsn
+mark_at durable end (kind.Move p from to) = durable
+mark_at durable end (kind.Withdraw from) = durable
+mark_at durable end (kind.Undo from) = durable
+mark_at durable end (kind.Shrink chunks) = durable
+mark_at durable end (kind.Grow chunks) = durable
+mark_at durable end (kind.Resize bytes chunks) = durable
+mark_at durable end (kind.Clean written skipped) = durable
+mark_at durable end (kind.Check lsn) = durable
+mark_at durable end (kind.WatchSet p) = durable
+mark_at durable end (kind.WatchAt p f) = durable
+mark_at durable end (kind.Occurred p arrived) = durable
+mark_at durable end (kind.Unwatch p) = durable
+mark_at durable end (kind.Dump pct ids) = durable
+mark_at durable end (kind.Refused asked why) = durable
+
+-- the durable mark behind these entries, the newest first: each write of a page covered its LSN
+abbrev pub mark_behind : ℕ → ℕ → List Entry → ℕ
+mark_behind durable end [] = durable
+mark_behind durable end (e ∷ came) = mark_at (mark_behind durable end came) end e.kind
+
+-- and each write says that mark
+abbrev pub AllSayMarks : ℕ → ℕ → List Entry → Type 0
+AllSayMarks durable end [] = ⊤
+AllSayMarks durable end (e ∷ came) = IsUpTo (mark_behind durable end (e ∷ came)) e.kind × AllSayMarks durable end came
+
+-- The log ended here and was durable up to the first mark, and up to the second behind the entries that came, whose writes say so.
+pub record AreMarked (durable end now : ℕ) (old new : List Entry) : Type 0 where
+  pub came : List Entry
+  pub split : new ≡ came ++ old
+  pub each : AllSayMarks durable end came
+  pub now_is : now ≡ mark_behind durable end came
+
 -- so many pages were written, and then the call's answer was appended
 pub record IsCleanedBy {D : Type 0} (old new : State D) (by : Caller) (written : ℕ) (answer : Kind) : Type 0 where
   pub mid : List Entry
@@ -110,16 +160,21 @@ pub record IsCleaned {D : Type 0} (old new : State D) (by : Caller) (bound writt
   pub most : written ≤ bound
   pub all : (written ≡ bound) ⊎ (dirty new.history ≡ [])
 
+-- where a clean fails that has written so many: a page was still to be written; or, with `sync`, none was
+abbrev pub IsStop : ℕ → ℕ → Bool → List Dirty → Type 0
+IsStop written bound sync left = ((written < bound) × (0 < length left)) ⊎ ((sync ≡ true) × ((written ≡ bound) ⊎ (left ≡ [])))
+
 -- a refused clean keeps what it had written before the device failed
-pub record IsUncleaned {D : Type 0} (old new : State D) (by : Caller) (bound : ℕ) (why : Cause) : Type 0 where
+pub record IsUncleaned {D : Type 0} (old new : State D) (by : Caller) (bound : ℕ) (sync : Bool) (why : Cause) : Type 0 where
   pub written : ℕ
   pub cleaned : IsCleanedBy old new by written (kind.Refused (call.Clean bound) why)
   pub most : written ≤ bound
+  pub stop : IsStop written bound sync (dirty new.history)
 
 -- why a clean was refused, and what stands then; the devices' counts of faults went from the first to the second
-abbrev pub IsCleanRefusal : {D : Type 0} → State D → State D → Caller → ℕ → ℕ → ℕ → ℕ → ℕ → CleanErr → Type 0
-IsCleanRefusal old new by bound disk_was disk_is log_was log_is unclean.OutOfMemory = new ≡ old
-IsCleanRefusal old new by bound disk_was disk_is log_was log_is (unclean.RedoFault before after) =
-    RoseWithin log_was log_is before after × IsUncleaned old new by bound (cause.RedoFault before after)
-IsCleanRefusal old new by bound disk_was disk_is log_was log_is (unclean.DiskFault before after) =
-    RoseWithin disk_was disk_is before after × IsUncleaned old new by bound (cause.DiskFault before after)
+abbrev pub IsCleanRefusal : {D : Type 0} → State D → State D → Caller → ℕ → Bool → ℕ → ℕ → ℕ → ℕ → CleanErr → Type 0
+IsCleanRefusal old new by bound sync disk_was disk_is log_was log_is unclean.OutOfMemory = new ≡ old
+IsCleanRefusal old new by bound sync disk_was disk_is log_was log_is (unclean.RedoFault before after) =
+    RoseWithin log_was log_is before after × (un : IsUncleaned old new by bound sync (cause.RedoFault before after)) × (un.written ≡ 0 → new.disk ≡ old.disk)
+IsCleanRefusal old new by bound sync disk_was disk_is log_was log_is (unclean.DiskFault before after) =
+    RoseWithin disk_was disk_is before after × IsUncleaned old new by bound sync (cause.DiskFault before after)

@@ -1,5 +1,5 @@
 -- What is known while a victim is sought, and while its frame is claimed and no entry says so.
-use Rattle.std.specs.Prelude.{ℕ, Bool, true, false, not, List, ◌∷◌, ◌++◌, ◌≡◌, ◌<◌, ◌≤◌, ◌*◌, ◌+◌, ◌^◌, Option, None, Some, IfSome, IsSome, Contains, filter, length, map}
+use Rattle.std.specs.Prelude.{ℕ, Bool, true, false, not, List, ◌∷◌, ◌++◌, ◌≡◌, ◌<◌, ◌≤◌, ◌*◌, ◌+◌, ◌^◌, ◌⊎◌, Option, None, Some, IfSome, IsSome, Contains, filter, length, map}
 use Rattle.page_ids.specs.Chunks.{instance_of}
 use Rattle.page_ids.specs.Content.{Content}
 use Rattle.page_ids.specs.Size.{page_bytes}
@@ -23,13 +23,13 @@ use Rattle.desk.specs.Base.{Opened}
 use Rattle.desk.specs.Behind.{IsBehind}
 use Rattle.desk.specs.Changes.{LeavesDesk}
 use Rattle.desk.specs.Ledger.{IsVacant}
-use Rattle.desk.specs.Logged.{IsLogged, AreUpTo}
+use Rattle.desk.specs.Logged.{IsLogged, IsMarkBehind, AreUpTo}
 use Rattle.desk.specs.State.{State, Kept}
 use Rattle.desk.specs.Tied.{AreTied, IsTied, AreStamped}
-use Rattle.desk.specs.Victims.{AreFoundOn, AreSettled, IsHad, LeavesTurn}
+use Rattle.desk.specs.Victims.{AreFoundOn, AreSettled, IsHad, MustCover, LeavesTurn}
 use Rattle.desk.specs.declared.calls.Caller.{Caller}
-use Rattle.desk.specs.declared.calls.FixErr.{FixErr}
-use Rattle.desk.specs.declared.calls.FixErr.TheVariants as refusal
+use Rattle.desk.specs.declared.calls.FrameErr.{FrameErr}
+use Rattle.desk.specs.declared.calls.FrameErr.TheVariants as refusal
 use Rattle.desk.specs.declared.flush.WriteErr.{WriteErr}
 use Rattle.desk.specs.declared.flush.WriteErr.TheVariants as unwritten
 
@@ -113,13 +113,14 @@ pub record KeepsLog {R : Type 0} (told : R → Option Told) (old new : log.State
   pub logged : IsLogged old.seen h → IsLogged new.seen k
   pub known : log_end h ≤ old.seen.end → log_end k ≤ new.seen.end
   pub upto : AreUpTo new.seen.durable h k
+  pub mark : IsMarkBehind old.seen new.seen.durable
 
--- why a fix is refused whose victim could not be written
+-- why no frame is had whose victim could not be written
 abbrev pub cause_of : WriteErr → Cause
 cause_of (unwritten.RedoFault before after) = cause.RedoFault before after
 cause_of (unwritten.DiskFault before after) = cause.DiskFault before after
 
-abbrev pub refusal_of : WriteErr → FixErr
+abbrev pub refusal_of : WriteErr → FrameErr
 refusal_of (unwritten.RedoFault before after) = refusal.RedoFault before after
 refusal_of (unwritten.DiskFault before after) = refusal.DiskFault before after
 
@@ -134,6 +135,8 @@ pub record Leaves {D R : Type 0} (size : D → ℕ) (tells : D → Bool) (told :
   pub settled : AreSettled t.rows
   pub desk : LeavesDesk size tells spaces faults old new
   pub log : KeepsLog logged was is old.history new.history
+  -- the log was used only where it had to be made durable
+  pub covered : (is ≡ was) ⊎ MustCover old s.rows was.seen.durable
   pub behind : (o : Opened) → IsBehind tells told spaces o old s → IsBehind tells told spaces o new t
 
 -- the frame that was had is the next one, in which no page is at home

@@ -3,6 +3,8 @@ use Rattle.std.specs.Prelude.{ℕ, List, ◌≡◌, ◌<◌, ◌≤◌, ◌⊎�
 use Rattle.page_ids.specs.declared.frame_word.Word.{Word}
 use Rattle.page_ids.specs.declared.ids.PageId.{PageId}
 use Rattle.page_disk.specs.Disks.{pages_in}
+use Rattle.trail.specs.declared.event.Call.{Call}
+use Rattle.trail.specs.declared.event.Call.TheVariants as call
 use Rattle.trail.specs.declared.event.Cause.{Cause}
 use Rattle.trail.specs.declared.event.Cause.TheVariants as cause
 use Rattle.trail.specs.Book.{book, next_frame}
@@ -10,12 +12,14 @@ use Rattle.trail.specs.History.{home}
 use Rattle.frame_words.specs.Rows.{Row}
 use Rattle.desk.specs.Reads.{RoseWithin}
 use Rattle.desk.specs.State.{State}
-use Rattle.desk.specs.Steps.{IsLoaded, IsHit, IsRefusedFix, IsOutside, IsFaulted, IsUnsound}
-use Rattle.desk.specs.Victims.{IsHad, IsFull, MustWrite}
+use Rattle.desk.specs.Steps.{IsLoaded, IsHit, IsRefused, IsOutside, IsFaulted, IsUnsound}
+use Rattle.desk.specs.Victims.{IsHad, IsFull, MustWrite, MustCover}
 use Rattle.desk.specs.declared.calls.Caller.{Caller}
 use Rattle.desk.specs.declared.calls.Granted.{Granted}
 use Rattle.desk.specs.declared.calls.FixErr.{FixErr}
 use Rattle.desk.specs.declared.calls.FixErr.TheVariants as refusal
+use Rattle.desk.specs.declared.calls.FrameErr.{FrameErr}
+use Rattle.desk.specs.declared.calls.FrameErr.TheVariants as unhad
 
 -- a frame was had, and the page was read into it before
 pub record IsMiss {D : Type 0} (told : D → PageId → Option (List ℕ)) (old new : State D) (rows rows' : List Row) (by : Caller) (p : PageId) (now : ℕ) (g : Granted) : Type 0 where
@@ -34,24 +38,24 @@ abbrev pub IsGrantedBy : {D : Type 0} → (D → PageId → Option (List ℕ)) �
 IsGrantedBy told old new rows rows' by p now g = IsHit old new rows rows' by p now g ⊎ IsMiss told old new rows rows' by p now g
 
 -- the caller holds as many fixes as it may; nothing else happened
-pub record IsHeldFull {D : Type 0} (old new : State D) (by : Caller) (p : PageId) (now held full : ℕ) : Type 0 where
+pub record IsHeldFull {D : Type 0} (old new : State D) (by : Caller) (asked : Call) (held full : ℕ) : Type 0 where
   pub full_is : full ≡ held
   pub most : 64 ≤ held
-  pub entry : IsRefusedFix old new by p now (cause.HoldFull full)
+  pub entry : IsRefused old new by asked (cause.HoldFull full)
   pub disk : new.disk ≡ old.disk
 
 -- no frame was free, and every frame was seen with a fix
-pub record IsUnseated {D : Type 0} (old new : State D) (rows : List Row) (by : Caller) (p : PageId) (now : ℕ) (seen : List (ℕ × Word)) : Type 0 where
+pub record IsUnseated {D : Type 0} (old new : State D) (rows : List Row) (by : Caller) (p : PageId) (asked : Call) (seen : List (ℕ × Word)) : Type 0 where
   pub absent : home old.history p ≡ None
   pub full : IsFull old rows p seen
-  pub entry : IsRefusedFix old new by p now (cause.AllFixed seen)
+  pub entry : IsRefused old new by asked (cause.AllFixed seen)
   pub disk : new.disk ≡ old.disk
 
 -- A page that had to leave (`MustWrite`) could not be written: the count of faults of the log or of the disk rose so. It is as dirty as it was.
-pub record IsUnwritten {D : Type 0} (old new : State D) (by : Caller) (p : PageId) (now was is before after : ℕ) (why : Cause) : Type 0 where
+pub record IsUnwritten {D : Type 0} (old new : State D) (by : Caller) (p : PageId) (asked : Call) (was is before after : ℕ) (why : Cause) : Type 0 where
   pub absent : home old.history p ≡ None
   pub rose : RoseWithin was is before after
-  pub entry : IsRefusedFix old new by p now why
+  pub entry : IsRefused old new by asked why
 
 -- a frame was had, and the page could not be read into it, for this reason; the disk told of the page what it told before the call
 pub record IsUnread {D : Type 0} (told : D → PageId → Option (List ℕ)) (old : State D) (rows rows' : List Row) (by : Caller) (p : PageId) (why : State D → Type 0) : Type 0 where
@@ -62,22 +66,23 @@ pub record IsUnread {D : Type 0} (told : D → PageId → Option (List ℕ)) (ol
   pub page_told : told had.disk p ≡ told old.disk p
   pub because : why had
 
--- Why a fix was refused, and what stands then: nothing has changed, or the refusal was appended. The log's count of faults went from `was` to `is`.
-abbrev pub IsFixRefusal : {D : Type 0} → (D → PageId → Option (List ℕ)) → (D → ℕ → Option ℕ) → (D → ℕ) → State D → State D → List Row → List Row → Caller → ℕ → PageId → ℕ → ℕ → ℕ → FixErr → Type 0
-IsFixRefusal told spaces faults old new rows rows' by held p now was is refusal.OutOfMemory = (new ≡ old) × (rows' ≡ rows)
-IsFixRefusal told spaces faults old new rows rows' by held p now was is (refusal.NoSuchPage pages) = IsOutside spaces old new by p now pages × (rows' ≡ rows)
-IsFixRefusal told spaces faults old new rows rows' by held p now was is (refusal.HoldFull full) =
-    (p.page < pages_in (spaces old.disk) p.space) × IsHeldFull old new by p now held full × (rows' ≡ rows)
-IsFixRefusal told spaces faults old new rows rows' by held p now was is (refusal.AllFixed seen) =
-    (p.page < pages_in (spaces old.disk) p.space) × (held < 64) × IsUnseated old new rows by p now seen × (rows' ≡ rows)
-IsFixRefusal told spaces faults old new rows rows' by held p now was is (refusal.RedoFault before after) =
+-- Why a fix was refused, and what stands then: nothing has changed, or the refusal was appended. The log was durable up to `durable`, and its count of
+-- faults went from `was` to `is`.
+abbrev pub IsFixRefusal : {D : Type 0} → (D → PageId → Option (List ℕ)) → (D → ℕ → Option ℕ) → (D → ℕ) → State D → State D → List Row → List Row → Caller → ℕ → PageId → ℕ → ℕ → ℕ → ℕ → FixErr → Type 0
+IsFixRefusal told spaces faults old new rows rows' by held p now durable was is refusal.OutOfMemory = (new ≡ old) × (rows' ≡ rows)
+IsFixRefusal told spaces faults old new rows rows' by held p now durable was is (refusal.NoSuchPage pages) = IsOutside spaces old new by p (call.Fix p now) pages × (rows' ≡ rows)
+IsFixRefusal told spaces faults old new rows rows' by held p now durable was is (refusal.HoldFull full) =
+    (p.page < pages_in (spaces old.disk) p.space) × IsHeldFull old new by (call.Fix p now) held full × (rows' ≡ rows)
+IsFixRefusal told spaces faults old new rows rows' by held p now durable was is (refusal.AllFixed seen) =
+    (p.page < pages_in (spaces old.disk) p.space) × (held < 64) × IsUnseated old new rows by p (call.Fix p now) seen × (rows' ≡ rows)
+IsFixRefusal told spaces faults old new rows rows' by held p now durable was is (refusal.RedoFault before after) =
     (p.page < pages_in (spaces old.disk) p.space) × (held < 64)
-    × IsUnwritten old new by p now was is before after (cause.RedoFault before after) × (rows' ≡ rows) × MustWrite old rows
-IsFixRefusal told spaces faults old new rows rows' by held p now was is (refusal.DiskFault before after) =
+    × IsUnwritten old new by p (call.Fix p now) was is before after (cause.RedoFault before after) × (rows' ≡ rows) × MustCover old rows durable × (new.disk ≡ old.disk)
+IsFixRefusal told spaces faults old new rows rows' by held p now durable was is (refusal.DiskFault before after) =
     (p.page < pages_in (spaces old.disk) p.space) × (held < 64)
-    × ((IsUnwritten old new by p now (faults old.disk) (faults new.disk) before after (cause.DiskFault before after) × (rows' ≡ rows) × MustWrite old rows)
+    × ((IsUnwritten old new by p (call.Fix p now) (faults old.disk) (faults new.disk) before after (cause.DiskFault before after) × (rows' ≡ rows) × MustWrite old rows)
     ⊎ IsUnread told old rows rows' by p (λ had. (faults old.disk ≤ faults had.disk) × IsFaulted faults had new by p now before after))
-IsFixRefusal told spaces faults old new rows rows' by held p now was is (refusal.BadPage bad) =
+IsFixRefusal told spaces faults old new rows rows' by held p now durable was is (refusal.BadPage bad) =
     (p.page < pages_in (spaces old.disk) p.space) × (held < 64)
     × IsUnread told old rows rows' by p (λ had. IsUnsound told had new by p now bad)
 
@@ -85,6 +90,13 @@ IsFixRefusal told spaces faults old new rows rows' by held p now was is (refusal
 abbrev pub NeedsNoVictim : {D : Type 0} → (D → ℕ → Option ℕ) → State D → ℕ → PageId → Type 0
 NeedsNoVictim spaces desk held p =
     IsSome (home desk.history p) ⊎ (pages_in (spaces desk.disk) p.space ≤ p.page) ⊎ (64 ≤ held) ⊎ IsSome (next_frame (book desk.config desk.history))
+
+-- why a fix is refused for which no frame was had
+abbrev pub fix_err_of : FrameErr → FixErr
+fix_err_of unhad.OutOfMemory = refusal.OutOfMemory
+fix_err_of (unhad.AllFixed seen) = refusal.AllFixed seen
+fix_err_of (unhad.RedoFault before after) = refusal.RedoFault before after
+fix_err_of (unhad.DiskFault before after) = refusal.DiskFault before after
 
 -- the log is as it was at a refusal that no device causes
 abbrev pub IsUnlogged : {L : Type 0} → L → L → FixErr → Type 0

@@ -1,11 +1,12 @@
 -- What the lists of a desk are of its history.
-use Rattle.std.specs.Prelude.{ℕ, Bool, true, false, not, List, [], ◌∷◌, ◌≡◌, ◌≢◌, ◌==◌, ◌+◌, ◌<◌, ◌≤◌, Option, None, Some, length, slice_index_or, ⊤, if◌then◌else◌}
-use Rattle.std.specs.Option.{option_map_or}
+use Rattle.std.specs.Prelude.{ℕ, All, Bool, true, false, not, List, [], ◌∷◌, ◌≡◌, ◌≢◌, ◌==◌, ◌+◌, ◌<◌, ◌≤◌, Option, None, Some, length, map, reverse, slice_index_or, unwrap_or, ⊤, if◌then◌else◌}
+use Rattle.std.specs.Option.{option_map, option_map_or}
 use Rattle.page_ids.specs.Chunks.{chunks_of}
-use Rattle.page_ids.specs.Midpoint.{numbers_of, count_of, under}
+use Rattle.page_ids.specs.Midpoint.{numbers_of, count_of, under, read_in, touch}
 use Rattle.page_ids.specs.declared.ids.PageId.{PageId}
 use Rattle.page_ids.specs.declared.config.Config.{Config}
 use Rattle.midpoint_lru.specs.View.{View}
+use Rattle.flush_list.specs.View.{Node, View as Flush, without}
 use Rattle.trail.specs.declared.event.Dirty.{Dirty}
 use Rattle.trail.specs.declared.event.Entry.{Entry}
 use Rattle.trail.specs.declared.event.Kind.{Kind}
@@ -15,6 +16,7 @@ use Rattle.trail.specs.History.{home}
 use Rattle.trail.specs.Book.{Book, book, is_late}
 use Rattle.trail.specs.Dirt.{dirty, dirt_of, is_dirty, log_end}
 use Rattle.trail.specs.Order.{order}
+use Rattle.desk.specs.Ledger.{IsVacant}
 
 -- whether the entry leaves all lists
 abbrev pub is_quiet : Kind → Bool
@@ -82,11 +84,46 @@ pub record KeepsBook (c : Config) (h : List Entry) (free : List ℕ) (hand : Opt
   pub distinct : AreFrames c.frames (in_turn hand free)
   pub taken : (p : PageId) (f : ℕ) → home h p ≡ Some f → Absent f (in_turn hand free)
 
--- the dirty pages are those of the history; each is resident, and the log has its last change
-pub record KeepsDirty (h : List Entry) (listed : List Dirty) : Type 0 where
-  pub dirty_are : listed ≡ dirty h
+-- a dirty page as the flush list has it: by its home
+abbrev pub node_of : List Entry → Dirty → Node
+node_of h d = record { frame = unwrap_or (home h d.page) 0; oldest = d.oldest }
+
+-- the LSN behind the last change of a dirty page; none of a clean one
+abbrev pub newest_of : List Entry → PageId → Option ℕ
+newest_of h p = option_map (λ (d : Dirty). d.newest) (dirt_of (dirty h) p)
+
+-- and as it is kept of a frame
+abbrev pub newest_in : List (Option ℕ) → ℕ → Option ℕ
+newest_in newest f = slice_index_or newest f None
+
+-- no change of these pages lies behind the LSN
+abbrev pub AreLogged : ℕ → List Dirty → Type 0
+AreLogged end ds = All (λ d. (d.oldest ≤ end) × (d.newest ≤ end)) ds
+
+-- The flush list from its head is the history's list of dirty pages read backwards, each by its home, which it has. A home's newest LSN is
+-- its page's, and a vacant frame has none. No change of a dirty page lies behind the log's end.
+pub record KeepsDirty (c : Config) (h : List Entry) (newest : List (Option ℕ)) (flush : Flush) : Type 0 where
+  pub listed_are : flush.listed ≡ map (node_of h) (reverse (dirty h))
+  pub room_is : flush.room ≡ c.frames
   pub clean : (p : PageId) → home h p ≡ None → is_dirty h p ≡ false
-  pub logged : (p : PageId) (d : Dirty) → dirt_of (dirty h) p ≡ Some d → d.newest ≤ log_end h
+  pub newest_are : (p : PageId) (f : ℕ) → home h p ≡ Some f → newest_in newest f ≡ newest_of h p
+  pub vacant : (f : ℕ) → IsVacant h f → newest_in newest f ≡ None
+  pub newest_count : length newest ≡ c.frames
+  pub logged : AreLogged (log_end h) (dirty h)
+
+-- the flush list behind a change of the page in a frame: one that has a newest LSN stays, another one comes to the head
+abbrev pub after_change : ℕ → ℕ → Option ℕ → Flush → Flush
+after_change f start None v = record v { listed = record { frame = f; oldest = start } ∷ v.listed }
+after_change f start (Some n) v = v
+
+-- and behind its write
+abbrev pub after_write : ℕ → Option ℕ → Flush → Flush
+after_write f None v = v
+after_write f (Some n) v = record v { listed = without f v.listed }
+
+-- the LRU list behind a page that was made in a frame: it was read in, and touched at this moment
+abbrev pub after_making : ℕ → ℕ → View → View
+after_making f now v = record v { order = touch ◌==◌ v.numbers f now (read_in v.numbers f v.order) }
 
 -- the list of frames is the history's list of pages under other names, and has each page's home once
 pub record KeepsOrder (c : Config) (h : List Entry) (tenants : List PageId) (lru : View) : Type 0 where
@@ -97,13 +134,13 @@ pub record KeepsOrder (c : Config) (h : List Entry) (tenants : List PageId) (lru
   pub evicts : lru.order.evicts ≤ length h
 
 -- all lists, where so many frames have room in the free list
-pub record AreKept (c : Config) (h : List Entry) (homes : PageId → Option ℕ) (tenants : List PageId) (free : List ℕ) (hand : Option ℕ) (listed : List Dirty) (lru : View) (seats : ℕ) : Type 0 where
+pub record AreKept (c : Config) (h : List Entry) (homes : PageId → Option ℕ) (tenants : List PageId) (free : List ℕ) (hand : Option ℕ) (newest : List (Option ℕ)) (flush : Flush) (lru : View) (seats : ℕ) : Type 0 where
   pub one : chunks_of c ≡ 1
   pub places : mark c.first h ≡ c.first + length h
   pub homed : KeepsHomes c h homes tenants
   pub booked : KeepsBook c h free hand
   pub used : AreOthersUsed c h tenants (in_turn hand free)
-  pub soiled : KeepsDirty h listed
+  pub soiled : KeepsDirty c h newest flush
   pub ordered : KeepsOrder c h tenants lru
   pub frames : c.frames ≤ seats
   pub seated : length (in_turn hand free) ≤ seats

@@ -1,5 +1,5 @@
 -- The lists that a history gives: what an entry needs of them, and what it leaves.
-use Rattle.std.specs.Prelude.{ℕ, false, List, ◌∷◌, ◌≡◌, ◌+◌, ◌<◌, ◌≤◌, None, Some, IsSome, ⊤}
+use Rattle.std.specs.Prelude.{ℕ, false, List, ◌∷◌, ◌≡◌, ◌+◌, ◌≤◌, None, Some, IsSome, ⊤}
 use Rattle.page_ids.specs.Chunks.{chunks_of}
 use Rattle.page_ids.specs.declared.ids.PageId.{PageId}
 use Rattle.page_ids.specs.declared.config.Config.{Config}
@@ -13,12 +13,11 @@ use Rattle.trail.specs.Book.{book, next_frame}
 use Rattle.desk.specs.State.{Kept}
 use Rattle.desk.specs.declared.calls.Caller.{Caller}
 
--- the numbers of the pool, and the history with the newest entry first; for how many entries there is room, and for how many more dirty pages
+-- the numbers of the pool, and the history with the newest entry first; for how many entries there is room
 pub record Ledger : Type 0 where
   pub config : Config
   pub history : List Entry
   pub room : ℕ
-  pub spare : ℕ
 
 -- the numbers of a pool that starts with one chunk
 pub record IsOneChunk (c : Config) : Type 0 where
@@ -40,11 +39,18 @@ pub record IsArrival (l : Ledger) (p : PageId) (f : ℕ) : Type 0 where
   pub absent : home l.history p ≡ None
   pub next : next_frame (book l.config l.history) ≡ Some f
 
--- a resident page is changed, and the record of the change ends where the log then does
-pub record IsChange (l : Ledger) (p : PageId) (end : ℕ) : Type 0 where
+-- a page without a home is made in the frame that is next, and the record of that starts at or behind the end of the log
+pub record IsMaking (l : Ledger) (p : PageId) (f start end : ℕ) : Type 0 where
+  pub absent : home l.history p ≡ None
+  pub next : next_frame (book l.config l.history) ≡ Some f
+  pub behind : log_end l.history ≤ start
+  pub rises : start ≤ end
+
+-- a resident page is changed, and the record of the change starts at or behind the end of the log
+pub record IsChange (l : Ledger) (p : PageId) (start end : ℕ) : Type 0 where
   pub resident : IsSome (home l.history p)
-  pub spare : 0 < l.spare
-  pub behind : log_end l.history ≤ end
+  pub behind : log_end l.history ≤ start
+  pub rises : start ≤ end
 
 -- a clean page leaves its frame where no frame is free
 pub record IsDeparture (l : Ledger) (p : PageId) (f : ℕ) : Type 0 where
@@ -56,8 +62,8 @@ pub record IsDeparture (l : Ledger) (p : PageId) (f : ℕ) : Type 0 where
 abbrev pub MayCome : Ledger → Kind → Type 0
 MayCome l (kind.Load p f) = IsArrival l p f
 MayCome l (kind.Fix p f clock now) = home l.history p ≡ Some f
-MayCome l (kind.Create p f start end now) = ⊥
-MayCome l (kind.Put p at bytes start end) = IsChange l p end
+MayCome l (kind.Create p f start end now) = IsMaking l p f start end
+MayCome l (kind.Put p at bytes start end) = IsChange l p start end
 MayCome l (kind.Evict p f passed) = IsDeparture l p f
 MayCome l (kind.Write p lsn upto) = ⊤
 MayCome l (kind.Move p from to) = ⊥
@@ -67,7 +73,7 @@ MayCome l (kind.Shrink chunks) = ⊥
 MayCome l (kind.Grow chunks) = ⊥
 MayCome l (kind.Resize bytes chunks) = ⊥
 MayCome l (kind.Clean written skipped) = ⊤
-MayCome l (kind.Check lsn) = ⊥
+MayCome l (kind.Check lsn) = ⊤
 MayCome l (kind.WatchSet p) = ⊥
 MayCome l (kind.WatchAt p f) = ⊥
 MayCome l (kind.Occurred p arrived) = ⊥
@@ -80,8 +86,7 @@ pub record IsFollowed (old new : Ledger) (e : Entry) : Type 0 where
   pub config : new.config ≡ old.config
   pub history : new.history ≡ e ∷ old.history
   pub room : old.room ≤ new.room + 1
-  pub spare : old.spare ≤ new.spare + 1
 
 -- the lists of a desk, which grow only by such entries
 abbrev pub ledger_of : {D : Type 0} → Kept D → Ledger
-ledger_of desk = record { config = desk.state.config; history = desk.state.history; room = desk.room; spare = desk.spare }
+ledger_of desk = record { config = desk.state.config; history = desk.state.history; room = desk.room }

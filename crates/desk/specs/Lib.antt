@@ -10,7 +10,9 @@ pub mod Tied
 pub mod Loads
 pub mod Logged
 pub mod Changes
-pub mod Trials
+pub mod Checks
 pub mod Victims
 pub mod Fixing
 pub mod Claimed
+pub mod Creating
+pub mod Making

@@ -6,7 +6,7 @@ use Rattle.page_ids.specs.declared.ids.PageId.{PageId}
 use Rattle.redo_mark.specs.Logs.{Seen}
 use Rattle.trail.specs.Alone.{cause_words}
 use Rattle.trail.specs.Dirt.{log_end}
-use Rattle.trail.specs.declared.event.Call.TheVariants as call
+use Rattle.trail.specs.declared.event.Call.{Call}
 use Rattle.trail.specs.declared.event.Cause.{Cause}
 use Rattle.trail.specs.declared.event.Entry.{Entry}
 use Rattle.frame_words.specs.Appends.{FitsRefusal}
@@ -35,10 +35,10 @@ pub record IsInImage (told : Option (List ℕ)) (s : FramesSeen) (p : PageId) (f
   pub image : (row_at s f).image ≡ Some (Some content)
   pub read : IfSome told (λ bytes. IsPage p bytes content)
 
--- the cause has no word, and may refuse a fix of a caller with these open fixes
-pub record MayRefuse (s : FramesSeen) (p : PageId) (now : ℕ) (why : Cause) : Type 0 where
+-- the cause has no word, and may refuse this call of a caller with these open fixes
+pub record MayRefuse (s : FramesSeen) (asked : Call) (why : Cause) : Type 0 where
   pub words : cause_words why ≡ []
-  pub fits : IfSome s.opened (λ opened. FitsRefusal opened (call.Fix p now) why)
+  pub fits : IfSome s.opened (λ opened. FitsRefusal opened asked why)
 
 -- one entry came, which tells nothing of the log
 pub record IsOneMore (old new : List Entry) : Type 0 where

@@ -1,5 +1,5 @@
 -- What the log has of a history.
-use Rattle.std.specs.Prelude.{ℕ, List, [], ◌∷◌, ◌++◌, ◌≡◌, ◌≤◌, ⊤}
+use Rattle.std.specs.Prelude.{ℕ, List, [], ◌∷◌, ◌++◌, ◌≡◌, ◌≤◌, ◌⊎◌, ⊤}
 use Rattle.page_ids.specs.declared.ids.PageId.{PageId}
 use Rattle.redo_mark.specs.Logs.{Seen, Holds}
 use Rattle.redo_mark.specs.Records.{record_of}
@@ -68,6 +68,10 @@ IsLoggedKind log (kind.Refused asked why) = IsLoggedCause log why
 abbrev pub IsLogged : Seen → List Entry → Type 0
 IsLogged log [] = ⊤
 IsLogged log (e ∷ h) = IsLoggedKind log e.kind × IsLogged log h
+
+-- the durable mark behind a call: as it stood, or where the log ended
+abbrev pub IsMarkBehind : Seen → ℕ → Type 0
+IsMarkBehind old mark = (mark ≡ old.durable) ⊎ (mark ≡ old.end)
 
 -- a write says this mark: the log was durable just up to there
 abbrev pub IsUpTo : ℕ → Kind → Type 0

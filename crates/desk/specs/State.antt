@@ -13,11 +13,10 @@ pub record State (D : Type 0) : Type 0 where
   pub history : List Entry
   pub disk : D
 
--- beside it, for how many entries there is room, and for how many more dirty pages
+-- beside it, for how many entries there is room
 pub record Kept (D : Type 0) : Type 0 where
   pub state : State D
   pub room : ℕ
-  pub spare : ℕ
 
 -- a resident page lies in its space
 abbrev pub AreInside : (ℕ → Option ℕ) → List Entry → Type 0

@@ -7,6 +7,7 @@ use Rattle.page_ids.specs.declared.config.Config.{Config}
 use Rattle.page_ids.specs.declared.layout.BadPage.{BadPage}
 use Rattle.page_disk.specs.Disks.{pages_in}
 use Rattle.trail.specs.declared.event.Entry.{Entry}
+use Rattle.trail.specs.declared.event.Call.{Call}
 use Rattle.trail.specs.declared.event.Call.TheVariants as call
 use Rattle.trail.specs.declared.event.Cause.{Cause}
 use Rattle.trail.specs.declared.event.Cause.TheVariants as cause
@@ -62,15 +63,19 @@ pub record IsHit {D : Type 0} (old new : State D) (rows rows' : List Row) (by : 
   pub disk : new.disk ≡ old.disk
   pub rows_are : rows' ≡ slice_set rows g.frame (held_row (row_in rows g.frame))
 
--- the fix was refused with this cause
+-- the call was refused with this cause
+abbrev pub IsRefused : {D : Type 0} → State D → State D → Caller → Call → Cause → Type 0
+IsRefused old new by asked why = IsAppended old new by (kind.Refused asked why)
+
+-- and so a fix
 abbrev pub IsRefusedFix : {D : Type 0} → State D → State D → Caller → PageId → ℕ → Cause → Type 0
-IsRefusedFix old new by p now why = IsAppended old new by (kind.Refused (call.Fix p now) why)
+IsRefusedFix old new by p now why = IsRefused old new by (call.Fix p now) why
 
 -- the page lies outside its space; no device was used
-pub record IsOutside {D : Type 0} (spaces : D → ℕ → Option ℕ) (old new : State D) (by : Caller) (p : PageId) (now pages : ℕ) : Type 0 where
+pub record IsOutside {D : Type 0} (spaces : D → ℕ → Option ℕ) (old new : State D) (by : Caller) (p : PageId) (asked : Call) (pages : ℕ) : Type 0 where
   pub count : pages ≡ pages_in (spaces old.disk) p.space
   pub past_end : pages ≤ p.page
-  pub entry : IsRefusedFix old new by p now (cause.NoSuchPage pages)
+  pub entry : IsRefused old new by asked (cause.NoSuchPage pages)
   pub disk : new.disk ≡ old.disk
 
 -- the disk's count of faults rose so in the read of a page that was not resident

@@ -4,6 +4,8 @@ use Rattle.page_ids.specs.Content.{Content}
 use Rattle.page_ids.specs.FrameWord.{fixes_of, AreRising}
 use Rattle.page_ids.specs.declared.frame_word.Word.{Word}
 use Rattle.page_ids.specs.declared.ids.PageId.{PageId}
+use Rattle.trail.specs.declared.event.Call.{Call}
+use Rattle.trail.specs.declared.event.Call.TheVariants as call
 use Rattle.trail.specs.declared.event.Cause.TheVariants as cause
 use Rattle.trail.specs.declared.event.Dirty.{Dirty}
 use Rattle.trail.specs.declared.event.Entry.{Entry}
@@ -17,10 +19,10 @@ use Rattle.frame_words.specs.Seen.{FramesSeen}
 use Rattle.desk.specs.Ledger.{entry_behind}
 use Rattle.desk.specs.State.{State}
 use Rattle.desk.specs.Reads.{RoseWithin}
-use Rattle.desk.specs.Steps.{row_in, IsRefusedFix}
+use Rattle.desk.specs.Steps.{row_in, IsRefused}
 use Rattle.desk.specs.declared.calls.Caller.{Caller}
-use Rattle.desk.specs.declared.calls.FixErr.{FixErr}
-use Rattle.desk.specs.declared.calls.FixErr.TheVariants as refusal
+use Rattle.desk.specs.declared.calls.FrameErr.{FrameErr}
+use Rattle.desk.specs.declared.calls.FrameErr.TheVariants as refusal
 
 -- each word was found on its frame, which this holder didn't visit, and has a fix
 abbrev pub AreFoundOn : List Row → List (ℕ × Word) → Type 0
@@ -52,6 +54,8 @@ pub record IsEvicted {D : Type 0} (old new : State D) (rows rows' : List Row) (b
   pub housed : home old.history page ≡ Some f
   pub unfixed : IfSome (row_in rows f).held (λ held. held ≡ 0)
   pub cleaned : IsCleanedFirst old.config.first by page old.history mid
+  -- a clean page leaves without a use of the disk
+  pub unused : is_dirty old.history page ≡ false → new.disk ≡ old.disk
   pub history : new.history ≡ entry_behind old.config.first mid by (kind.Evict page f passed) ∷ mid
   pub config : new.config ≡ old.config
   pub instance : new.instance ≡ old.instance
@@ -100,15 +104,46 @@ pub record MustWrite {D : Type 0} (old : State D) (rows : List Row) : Type 0 whe
   pub unfixed : IfSome (row_in rows frame).held (λ held. held ≡ 0)
   pub soiled : is_dirty old.history victim ≡ true
 
--- Why no frame was had, and what stands then; the devices' counts of faults went from the first to the second.
-abbrev pub IsUnhad : {D : Type 0} → State D → State D → List Row → Caller → PageId → ℕ → ℕ → ℕ → ℕ → ℕ → FixErr → Type 0
-IsUnhad old new rows by p now disk_was disk_is log_was log_is refusal.OutOfMemory = new ≡ old
-IsUnhad old new rows by p now disk_was disk_is log_was log_is (refusal.NoSuchPage pages) = ⊥
-IsUnhad old new rows by p now disk_was disk_is log_was log_is (refusal.HoldFull held) = ⊥
-IsUnhad old new rows by p now disk_was disk_is log_was log_is (refusal.AllFixed seen) =
-    IsFull old rows p seen × IsRefusedFix old new by p now (cause.AllFixed seen) × (new.disk ≡ old.disk)
-IsUnhad old new rows by p now disk_was disk_is log_was log_is (refusal.RedoFault before after) =
-    RoseWithin log_was log_is before after × IsRefusedFix old new by p now (cause.RedoFault before after) × MustWrite old rows
-IsUnhad old new rows by p now disk_was disk_is log_was log_is (refusal.DiskFault before after) =
-    RoseWithin disk_was disk_is before after × IsRefusedFix old new by p now (cause.DiskFault before after) × MustWrite old rows
-IsUnhad old new rows by p now disk_was disk_is log_was log_is (refusal.BadPage bad) = ⊥
+-- the page's newest change is behind the log's durable mark
+pub record IsAhead (h : List Entry) (p : PageId) (durable : ℕ) : Type 0 where
+  pub dirt : Dirty
+  pub was_dirty : dirt_of (dirty h) p ≡ Some dirt
+  pub behind : durable < dirt.newest
+
+-- The log has to be made durable before a frame is had: the page that has to be written was changed behind the durable mark.
+pub record MustCover {D : Type 0} (old : State D) (rows : List Row) (durable : ℕ) : Type 0 where
+  pub write : MustWrite old rows
+  pub ahead : IsAhead old.history write.victim durable
+
+-- the call takes a frame for this page
+abbrev pub AsksFor : PageId → Call → Type 0
+AsksFor p (call.Fix q now) = q ≡ p
+AsksFor p (call.Create q now) = q ≡ p
+AsksFor p (call.Put q at bytes) = ⊥
+AsksFor p (call.Read q at len) = ⊥
+AsksFor p (call.Unfix q) = ⊥
+AsksFor p (call.Guess q f clock) = ⊥
+AsksFor p (call.Watch q) = ⊥
+AsksFor p (call.Occurred q) = ⊥
+AsksFor p (call.Unwatch q) = ⊥
+AsksFor p (call.Clean bound) = ⊥
+AsksFor p call.Check = ⊥
+AsksFor p (call.Dump pct) = ⊥
+AsksFor p (call.Resize bytes rounds) = ⊥
+
+-- Why no frame was had, and what stands then; the devices' counts of faults went from the first to the second, and the log was durable up to `durable`.
+abbrev pub IsUnhad : {D : Type 0} → State D → State D → List Row → Caller → PageId → Call → ℕ → ℕ → ℕ → ℕ → ℕ → FrameErr → Type 0
+IsUnhad old new rows by p asked disk_was disk_is durable log_was log_is refusal.OutOfMemory = new ≡ old
+IsUnhad old new rows by p asked disk_was disk_is durable log_was log_is (refusal.AllFixed seen) =
+    IsFull old rows p seen × IsRefused old new by asked (cause.AllFixed seen) × (new.disk ≡ old.disk)
+IsUnhad old new rows by p asked disk_was disk_is durable log_was log_is (refusal.RedoFault before after) =
+    RoseWithin log_was log_is before after × IsRefused old new by asked (cause.RedoFault before after) × MustCover old rows durable × (new.disk ≡ old.disk)
+IsUnhad old new rows by p asked disk_was disk_is durable log_was log_is (refusal.DiskFault before after) =
+    RoseWithin disk_was disk_is before after × IsRefused old new by asked (cause.DiskFault before after) × MustWrite old rows
+
+-- the log is as it was where no device failed
+abbrev pub IsUnforced : {L : Type 0} → L → L → FrameErr → Type 0
+IsUnforced old new refusal.OutOfMemory = new ≡ old
+IsUnforced old new (refusal.AllFixed seen) = new ≡ old
+IsUnforced old new (refusal.RedoFault before after) = ⊤
+IsUnforced old new (refusal.DiskFault before after) = ⊤

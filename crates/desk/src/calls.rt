@@ -35,6 +35,40 @@ pub enum FixErr {
     BadPage(BadPage),
 }
 
+/// Why no frame was had for a page.
+#[derive(Debug, PartialEq, Eq, Drop)]
+pub(crate) enum FrameErr {
+    /// No memory. Nothing has changed.
+    OutOfMemory,
+    /// No frame was free, and every frame was seen with a fix.
+    AllFixed { seen: Words },
+    /// The log's count of faults rose from `before` to `after` as it was to be made durable for a page that had to be written first.
+    RedoFault { before: u64, after: u64 },
+    /// The disk's count of faults rose from `before` to `after` in the write of a page that had to leave.
+    DiskFault { before: u64, after: u64 },
+}
+
+/// Why a create was refused.
+#[derive(Debug, PartialEq, Eq, Drop)]
+pub enum CreateErr {
+    /// No memory. Nothing has changed.
+    OutOfMemory,
+    /// The page lies behind the last of the `pages` pages of its space.
+    NoSuchPage { pages: u32 },
+    /// The caller holds `held` fixes in the instance, which is the most that it may.
+    HoldFull { held: u32 },
+    /// The page is in this frame.
+    Resident { frame: u32 },
+    /// No frame was free, and every frame was seen with a fix.
+    AllFixed { seen: Words },
+    /// The log's count of faults rose from `before` to `after` as it was to be made durable for a page that had to be written first.
+    RedoFault { before: u64, after: u64 },
+    /// The disk's count of faults rose from `before` to `after` in the write of a page that had to leave.
+    DiskFault { before: u64, after: u64 },
+    /// The log ends at `end`, and the create's record would end above 2^63. The frame that was had for the page is free again.
+    LogSpent { end: u64 },
+}
+
 /// A put that was done: the end LSN of its record, and the place of its entry, which is the frame's new clock.
 #[derive(Clone, Copy, Debug, PartialEq, Eq)]
 pub struct PutDone {
@@ -49,6 +83,13 @@ pub enum PutErr {
     OutOfMemory,
     /// The log ends at `end`, and the put's record would end above 2^63.
     LogSpent { end: u64 },
+}
+
+/// Why a call was refused that is refused for nothing else.
+#[derive(Clone, Copy, Debug, PartialEq, Eq)]
+pub enum CallErr {
+    /// No memory. Nothing has changed.
+    OutOfMemory,
 }
 
 /// What a clean did: how many pages were written, and which frames were skipped because they were latched.

@@ -1,9 +1,10 @@
 //! Writing a page behind its log.
-ghost use Rattle.std.specs.Prelude.{ℕ, ◌≡◌, ◌≤◌, OnOk, OnErr, IfOk, IfErr, IsTrue, length, vec_len};
+ghost use Rattle.std.specs.Prelude.{ℕ, ◌≡◌, ◌<◌, ◌≤◌, OnOk, OnErr, IfOk, IfErr, IsTrue, length, vec_len};
 ghost use Rattle.page_disk.specs.Disks.{IsInside, IsSameDisk, IsOtherwiseSame, Fades};
 ghost use Rattle.redo_mark.specs.Logs.{IsLater, IsKept};
 ghost use Rattle.desk.specs.Reads.{IsFault, RoseWithin};
-ghost use Rattle.desk.specs.Changes.{IsImageTold, IsWriteFault};
+ghost use Rattle.desk.specs.Changes.{IsImageTold, IsWriteFault, IsForced, covered_to};
+ghost use Rattle.desk.specs.Logged.{IsMarkBehind};
 
 use page_disk::PageDisk;
 use page_ids::{Image, PageId, encode};
@@ -26,8 +27,13 @@ pub(crate) enum WriteErr {
 /// Makes the log durable up to an LSN, behind which it doesn't end.
 fn cover<R: RedoDisk>(redo: &mut Redo<R>, lsn: u64) -> Result<Covered, Fault>
     requires known { lsn ≤ redo.old.seen.end }
-    ensures ok { IfOk result (λ c. (lsn ≤ c) × (c ≡ redo.new.seen.durable)) }
+    ensures ok { IfOk result (λ c. (lsn ≤ c) × (c ≡ redo.new.seen.durable) × (c ≤ redo.new.seen.end)) }
+    ensures mark { OnOk result (redo.new.seen.durable ≡ covered_to redo.old.seen.durable redo.old.seen.end lsn) }
+    ensures end { redo.new.seen.end ≡ redo.old.seen.end }
     ensures fault { IfErr result (λ f. RoseWithin redo.old.seen.faults redo.new.seen.faults f.before f.after) }
+    ensures idle { lsn ≤ redo.old.seen.durable → redo.new ≡ redo.old }
+    ensures raised { redo.old.seen.durable < lsn → OnOk result (redo.new.seen.durable ≡ redo.old.seen.end) }
+    ensures forced { OnErr result ((redo.old.seen.durable < lsn) × (redo.new.seen.durable ≡ redo.old.seen.durable)) }
     ensures later { IsLater redo.old.seen redo.new.seen }
     ensures opening { redo.new.opening ≡ redo.old.opening }
     ensures kept { IsKept redo.new.seen (R.told redo.new.disk) }
@@ -82,11 +88,17 @@ pub(crate) fn write_page<D: PageDisk, R: RedoDisk>(
     requires buffer { vec_len buffer.old ≡ D.page_size disk.old }
     requires known { image.now.lsn ≤ redo.old.seen.end }
     ensures ok { IfOk result (λ upto. (image.now.lsn ≤ upto) × (upto ≡ redo.new.seen.durable)) }
+    ensures mark { OnOk result (redo.new.seen.durable ≡ covered_to redo.old.seen.durable redo.old.seen.end image.now.lsn) }
+    ensures end { redo.new.seen.end ≡ redo.old.seen.end }
     ensures written { OnOk result (IsImageTold D.tells D.told page image.now disk.old disk.new) }
     ensures failed { OnErr result (Fades (D.told disk.old page) (D.told disk.new page)) }
     ensures others { IsOtherwiseSame D.page_size D.tells D.told D.space_pages D.fault_count page disk.old disk.new }
     ensures fault { IfErr result (λ e. IsWriteFault (D.fault_count disk.old) (D.fault_count disk.new)
         redo.old.seen.faults redo.new.seen.faults e) }
+    ensures idle { image.now.lsn ≤ redo.old.seen.durable → redo.new ≡ redo.old }
+    ensures raised { redo.old.seen.durable < image.now.lsn → OnOk result (redo.new.seen.durable ≡ redo.old.seen.end) }
+    ensures marks { IsMarkBehind redo.old.seen redo.new.seen.durable }
+    ensures forced { IfErr result (λ e. IsForced disk.old disk.new (redo.old.seen.durable < image.now.lsn) e) }
     ensures buffer { vec_len buffer.new ≡ vec_len buffer.old }
     ensures later { IsLater redo.old.seen redo.new.seen }
     ensures opening { redo.new.opening ≡ redo.old.opening }
@@ -102,11 +114,27 @@ pub(crate) fn write_page<D: PageDisk, R: RedoDisk>(
     }
 }
 
+/// Makes the whole log durable. Where it is already, no device is used.
+pub(crate) fn cover_all<R: RedoDisk>(redo: &mut Redo<R>) -> Result<(), WriteErr>
+    ensures whole { OnOk result (redo.new.seen.durable ≡ redo.new.seen.end) }
+    ensures fault { (first last : ℕ) → IfErr result (λ e. IsWriteFault first last redo.old.seen.faults redo.new.seen.faults e) }
+    ensures later { IsLater redo.old.seen redo.new.seen }
+    ensures opening { redo.new.opening ≡ redo.old.opening }
+    ensures kept { IsKept redo.new.seen (R.told redo.new.disk) }
+{
+    let end = redo.end();
+    match cover(redo, end) {
+        Ok(_) => Ok(()),
+        Err(Fault { before, after }) => Err(WriteErr::RedoFault { before, after }),
+    }
+}
+
 /// Syncs the disk.
 pub(crate) fn sync_pages<D: PageDisk>(disk: &mut D) -> Result<(), WriteErr>
     ensures same { IsSameDisk D.page_size D.tells D.told D.space_pages D.fault_count disk.old disk.new }
     ensures synced { OnOk result (IsTrue (D.synced disk.new)) }
     ensures fault { (first last : ℕ) → IfErr result (λ e. IsWriteFault (D.fault_count disk.old) (D.fault_count disk.new) first last e) }
+    ensures unlogged { IfErr result (λ e. IsForced disk.old disk.new ⊥ e) }
 {
     let before = disk.faults();
     if disk.sync().is_err() {

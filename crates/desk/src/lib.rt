@@ -8,20 +8,17 @@
 #![tactic(auto)]
 
 pub mod calls;
+pub mod checks;
+pub mod cleans;
+pub mod creates;
 pub mod desk;
+pub mod fixes;
 pub mod flush;
 pub mod lists;
 pub mod parts;
+pub mod puts;
+pub mod steps;
 pub mod victims;
 
-pub use calls::{Caller, CleanErr, Cleaned, FixErr, Granted, PutDone, PutErr};
-pub use desk::{Desk, clean_disk_holds_the_values};
-
-#[cfg(test)]
-mod flush_tests;
-#[cfg(test)]
-mod put_tests;
-#[cfg(test)]
-mod tests;
-#[cfg(test)]
-mod victim_tests;
+pub use calls::{CallErr, Caller, CleanErr, Cleaned, CreateErr, FixErr, Granted, PutDone, PutErr};
+pub use desk::{Desk, clean_disk_holds_the_values, dirty_pages_are_few};

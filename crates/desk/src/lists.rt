@@ -1,20 +1,21 @@
 //! The lists that an instance's history gives, and the one way in which they change: an entry comes.
-ghost use Rattle.std.specs.Prelude.{List, ℕ, ◌≡◌, ◌<◌, ◌≤◌, ◌+◌, ◌++◌, ◌^◌, [], ◌∷◌, Some, None, OnOk, IfOk, IfSome, IsSome, length, reverse, drop, take, true, false};
-ghost use Rattle.std.specs.VecDeque.{deque_len, deque_capacity};
+ghost use Rattle.std.specs.Prelude.{List, ℕ, ◌≡◌, ◌<◌, ◌≤◌, ◌+◌, ◌^◌, [], ◌∷◌, Some, None, OnOk, IfOk, IfSome, IsSome, length, reverse, true, false};
 ghost use Rattle.page_ids.specs.declared.ids.PageId.{PageId};
 ghost use Rattle.page_ids.specs.declared.frame_word.Word.{Word};
 ghost use Rattle.trail.specs.Places.{mark};
 ghost use Rattle.trail.specs.History.{home};
 ghost use Rattle.trail.specs.Book.{book, next_frame, is_late};
-ghost use Rattle.trail.specs.Dirt.{dirty, is_dirty, log_end, cleaned};
+ghost use Rattle.trail.specs.Dirt.{dirty, is_dirty, log_end};
 ghost use Rattle.trail.specs.Victim.{from_the_tail};
 ghost use Rattle.trail.specs.declared.event.Dirty.{Dirty};
-ghost use Rattle.desk.specs.Ledger.{IsOneChunk, IsVacant, IsArrival, IsChange, IsDeparture, MayCome, IsFollowed, entry_behind};
-ghost use Rattle.desk.specs.KeptLists.{in_turn, is_quiet};
+ghost use Rattle.desk.specs.Ledger.{IsOneChunk, IsVacant, IsArrival, IsMaking, IsChange, IsDeparture, MayCome, IsFollowed, entry_behind};
+ghost use Rattle.desk.specs.KeptLists.{is_quiet};
 ghost use Rattle.desk.specs.Walk.{next_home, AreOrderly};
 
 use crate::calls::Caller;
-use crate::parts::{dirty_place, free_frames, push_kept, soil};
+use crate::parts::{empty_flush, free_frames, push_kept};
+use crate::steps::{clean, give_next, is_late, list_made, soil, take_next};
+use flush_list::Flush;
 use midpoint_lru::Lru;
 use page_ids::{Config, OutOfMemory, PageId};
 use redo_mark::Span;
@@ -36,8 +37,10 @@ pub(crate) struct Lists {
     free: VecDeque<u32>,
     /// The frame of a victim that its call has not used yet.
     hand: Option<u32>,
-    /// The pages that were changed since they were last written; the one whose first change is the oldest comes first (InnoDB's flush list).
-    dirty: VecDeque<Dirty>,
+    /// The frames of the pages that were changed since they were last written, the newest first change at the head.
+    flush: Flush,
+    /// The LSN behind the last change of the page in each frame; none where that page is clean.
+    newest: Vec<Option<u64>>,
     /// The frames of the resident pages in LRU order.
     lru: Lru,
 }
@@ -45,7 +48,7 @@ pub(crate) struct Lists {
 impl Model for Lists {
     ghost use Rattle.std.specs.Prelude.{reverse, length, vec_len, vec_capacity, min, ◌-◌};
     ghost use Rattle.std.specs.HashMap.{get, spare};
-    ghost use Rattle.std.specs.VecDeque.{deque_len, deque_capacity};
+    ghost use Rattle.std.specs.VecDeque.{deque_capacity};
     ghost use Rattle.page_ids.specs.Same.{same_page};
     ghost use Rattle.desk.specs.Ledger.{Ledger};
     ghost use Rattle.desk.specs.KeptLists.{AreKept};
@@ -56,11 +59,10 @@ impl Model for Lists {
       config = s.config;
       history = reverse s.history.items;
       room = min (vec_capacity s.history - vec_len s.history) (spare s.homes);
-      spare = deque_capacity s.dirty - deque_len s.dirty;
     } };
 
     ghost invariant = { λ s. AreKept s.config (reverse s.history.items) (get same_page s.homes) s.tenants.items
-        s.free.items s.hand s.dirty.items s.lru (deque_capacity s.free) };
+        s.free.items s.hand s.newest.items s.flush s.lru (deque_capacity s.free) };
 }
 
 impl Lists {
@@ -80,7 +82,8 @@ impl Lists {
             tenants: vec![in alloc; nowhere; frames]?,
             free: free_frames(alloc, config.frames)?,
             hand: None,
-            dirty: VecDeque::new(alloc),
+            flush: empty_flush(alloc, config.frames)?,
+            newest: vec![in alloc; None; frames]?,
             lru,
         })
     }
@@ -165,16 +168,27 @@ impl Lists {
         ensures some { IfSome result (λ d. (rest : List Dirty) × (dirty self.now.history ≡ d ∷ rest)) }
         ensures resident { IfSome result (λ d. IsSome (home self.now.history d.page)) }
         ensures logged { IfSome result (λ d. d.newest ≤ log_end self.now.history) }
+        ensures early { IfSome result (λ d. d.oldest ≤ log_end self.now.history) }
         ensures none { result ≡ None → dirty self.now.history ≡ [] }
     {
-        self.dirty.front().copied()
+        let frame = self.flush.tail()?;
+        let oldest = self.flush.oldest()?;
+        let newest = self.newest[frame as usize]?;
+        Some(Dirty {
+            page: self.tenants[frame as usize],
+            oldest,
+            newest,
+        })
     }
 
     /// Whether the page is dirty.
     pub(crate) fn is_dirty(&self, page: PageId) -> bool
         ensures { result ≡ is_dirty self.now.history page }
     {
-        dirty_place(&self.dirty, page).is_some()
+        match self.home(page) {
+            Some(frame) => self.newest[frame as usize].is_some(),
+            None => false,
+        }
     }
 
     /// How many pages are dirty.
@@ -182,7 +196,7 @@ impl Lists {
         ensures count { result ≡ length (dirty self.now.history) }
         ensures few { result ≤ self.now.config.frames }
     {
-        self.dirty.len()
+        self.flush.len() as usize
     }
 
     /// Makes room for so many entries, each of which may bring a page home.
@@ -195,14 +209,13 @@ impl Lists {
         self.homes.reserve(entries)
     }
 
-    /// Makes room for the entry of a put, and for one more dirty page.
+    /// Makes room for the entry of a put.
     pub(crate) fn reserve_put(&mut self) -> Result<(), AllocError>
-        ensures room { OnOk result ((0 < self.new.room) × (0 < self.new.spare)) }
+        ensures room { OnOk result (0 < self.new.room) }
         ensures config { self.new.config ≡ self.old.config }
         ensures history { self.new.history ≡ self.old.history }
     {
-        self.reserve(1)?;
-        self.dirty.reserve(1)
+        self.reserve(1)
     }
 
     /// Appends an entry that leaves all lists.
@@ -233,6 +246,25 @@ impl Lists {
         push_kept(&mut self.history, entry);
     }
 
+    /// Appends the entry of a page that was made: it comes as one that was read in, is touched at once, and is dirty.
+    fn append_create(&mut self, entry: Entry, page: PageId, frame: u32, now: u64, span: Span)
+        requires kind { entry.kind ≡ Kind.Create page frame span.start span.end now }
+        requires place { entry.place ≡ mark self.old.config.first self.old.history + 1 }
+        requires room { 0 < self.old.room }
+        requires may { IsMaking self.old page frame span.start span.end }
+        ensures { IsFollowed self.old self.new entry }
+    {
+        take_next(&mut self.hand, &mut self.free);
+        match self.homes.insert(page, frame) {
+            Ok(_) => (),
+            Err(_) => unreachable!(),
+        }
+        self.tenants[frame as usize] = page;
+        list_made(&mut self.lru, frame, now);
+        soil(&mut self.flush, &mut self.newest, frame, span);
+        push_kept(&mut self.history, entry);
+    }
+
     /// Appends the entry of a fix, which touches its frame in the LRU list.
     fn append_fix(&mut self, entry: Entry, page: PageId, frame: u32, now: u64)
         requires kind { (clock : ℕ) × (entry.kind ≡ Kind.Fix page frame clock now) }
@@ -250,10 +282,13 @@ impl Lists {
         requires kind { (at : ℕ) × (bytes : List ℕ) × (entry.kind ≡ Kind.Put page at bytes span.start span.end) }
         requires place { entry.place ≡ mark self.old.config.first self.old.history + 1 }
         requires room { 0 < self.old.room }
-        requires may { IsChange self.old page span.end }
+        requires may { IsChange self.old page span.start span.end }
         ensures { IsFollowed self.old self.new entry }
     {
-        soil(&mut self.dirty, page, span);
+        match self.home(page) {
+            Some(frame) => soil(&mut self.flush, &mut self.newest, frame, span),
+            None => unreachable!(),
+        }
         push_kept(&mut self.history, entry);
     }
 
@@ -264,8 +299,11 @@ impl Lists {
         requires room { 0 < self.old.room }
         ensures { IsFollowed self.old self.new entry }
     {
-        clean(&mut self.dirty, page);
+        let home = self.home(page);
         push_kept(&mut self.history, entry);
+        if let Some(frame) = home {
+            clean(&mut self.flush, &mut self.newest, frame);
+        }
     }
 
     /// Appends the entry of a page that leaves its frame, which is then in hand.
@@ -310,6 +348,13 @@ impl Lists {
                 now,
                 ..
             } => self.append_fix(entry, page, frame, now),
+            &Kind::Create {
+                page,
+                frame,
+                start,
+                end,
+                now,
+            } => self.append_create(entry, page, frame, now, Span { start, end }),
             &Kind::Put {
                 page,
                 start,
@@ -325,15 +370,13 @@ impl Lists {
                     self.append_quiet(entry);
                 }
             }
-            Kind::Clean { .. } => self.append_quiet(entry),
-            Kind::Create { .. }
-            | Kind::Move { .. }
+            Kind::Clean { .. } | Kind::Check { .. } => self.append_quiet(entry),
+            Kind::Move { .. }
             | Kind::Withdraw { .. }
             | Kind::Undo { .. }
             | Kind::Shrink { .. }
             | Kind::Grow { .. }
             | Kind::Resize { .. }
-            | Kind::Check { .. }
             | Kind::WatchSet { .. }
             | Kind::WatchAt { .. }
             | Kind::Occurred { .. }
@@ -353,67 +396,10 @@ impl Lists {
             tenants: _,
             free: _,
             hand: _,
-            dirty: _,
+            flush: _,
+            newest: _,
             lru: _,
         } = self;
         history
     }
-}
-
-/// Whether the refusal of a call may come behind the call's frame.
-fn is_late(call: &Call, cause: &Cause) -> bool
-    ensures { result ≡ is_late call.now cause.now }
-{
-    matches!(
-        (call, cause),
-        (
-            Call::Fix { .. },
-            Cause::DiskFault { .. } | Cause::BadPage(_)
-        ) | (
-            Call::Create { .. },
-            Cause::DiskFault { .. } | Cause::LogSpent { .. }
-        )
-    )
-}
-
-/// The next frame is taken: the one in hand, or else the first free one.
-fn take_next(hand: &mut Option<u32>, free: &mut VecDeque<u32>)
-    ensures hand { hand.new ≡ None }
-    ensures free { free.new.items ≡ drop 1 (in_turn hand.old free.old.items) }
-    ensures room { deque_capacity free.new ≡ deque_capacity free.old }
-{
-    if hand.is_some() {
-        *hand = None;
-    } else {
-        let _ = free.pop_front();
-    }
-}
-
-/// The next frame goes to the back of the free list.
-fn give_next(hand: &mut Option<u32>, free: &mut VecDeque<u32>)
-    requires room { length (in_turn hand.old free.old.items) ≤ deque_capacity free.old }
-    ensures hand { hand.new ≡ None }
-    ensures free { free.new.items ≡ drop 1 (in_turn hand.old free.old.items) ++ take 1 (in_turn hand.old free.old.items) }
-    ensures room { deque_capacity free.new ≡ deque_capacity free.old }
-{
-    match *hand {
-        Some(frame) => {
-            *hand = None;
-            free.push_back_reserved(frame);
-        }
-        None => {
-            if !free.is_empty() {
-                free.rotate_left(1);
-            }
-        }
-    }
-}
-
-/// Takes a page that was written out of the list of dirty pages.
-fn clean(dirty: &mut VecDeque<Dirty>, page: PageId)
-    ensures items { dirty.new.items ≡ cleaned page dirty.old.items }
-    ensures len { deque_len dirty.new ≤ deque_len dirty.old }
-    ensures room { deque_capacity dirty.new ≡ deque_capacity dirty.old }
-{
-    dirty.retain(|d| d.page != page);
 }

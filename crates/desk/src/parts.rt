@@ -1,28 +1,20 @@
 //! What a desk is made of at the start, and small steps on its parts.
-ghost use Rattle.std.specs.Prelude.{◌≡◌, ◌<◌, ◌≤◌, ◌+◌, ◌^◌, ◌++◌, ◌∷◌, [], ℕ, Some, OnOk, OnErr, IfOk, IfErr, IfSome, vec_len, vec_capacity, length, replicate, slice_get, Err, None};
-ghost use Rattle.page_ids.specs.Size.{page_bytes};
+ghost use Rattle.std.specs.Prelude.{◌≡◌, ◌<◌, ◌≤◌, ◌+◌, ◌^◌, ◌++◌, ◌∷◌, [], OnOk, OnErr, IfOk, IfErr, IfSome, vec_len, vec_capacity, length};
 ghost use Rattle.page_ids.specs.Chunks.{rising};
-ghost use Rattle.page_ids.specs.Content.{Content};
 ghost use Rattle.page_ids.specs.Faults.{IsCounted};
 ghost use Rattle.page_ids.specs.Layout.{IsPage};
-ghost use Rattle.page_ids.specs.Same.{same_page};
-ghost use Rattle.std.specs.HashMap.{get};
-ghost use Rattle.std.specs.HashMap.{spare};
 ghost use Rattle.page_disk.specs.Disks.{IsInside, IsSameDisk};
-ghost use Rattle.std.specs.List.{position};
 ghost use Rattle.std.specs.VecDeque.{deque_len, deque_capacity};
 ghost use Rattle.redo_mark.specs.Records.{head_of};
-ghost use Rattle.trail.specs.Dirt.{dirtied};
-ghost use Rattle.trail.specs.declared.event.Dirty.{Dirty};
 ghost use Rattle.desk.specs.Logged.{put_change};
 ghost use Rattle.desk.specs.Reads.{IsReadRefusal};
 
+use flush_list::Flush;
 use page_disk::PageDisk;
-use page_ids::{BadPage, Bytes, Config, Failed, Image, OutOfMemory, PageId, PageSize, decode};
-use redo_mark::{Change, ChangeKind, Draft, Span};
+use page_ids::{BadPage, Bytes, Failed, Image, OutOfMemory, PageId, decode};
+use redo_mark::{Change, ChangeKind, Draft};
 use std::alloc::Global;
-use std::collections::{HashMap, VecDeque};
-use trail::Dirty;
+use std::collections::VecDeque;
 
 /// Why a page was not read in.
 #[derive(Clone, Copy, Debug)]
@@ -64,34 +56,6 @@ pub(crate) fn drafted(
     let draft = Draft::of(alloc, &change)?;
     let Change { bytes, .. } = change;
     Ok((draft, bytes))
-}
-
-/// Where the page stands in the list of dirty pages.
-pub(crate) fn dirty_place(dirty: &VecDeque<Dirty>, page: PageId) -> Option<usize>
-    ensures { result ≡ position (λ (d : Dirty). same_page d.page page) dirty.now.items }
-{
-    dirty.iter().position(|d| d.page == page)
-}
-
-/// Brings a page that was changed into the list of dirty pages: one that is dirty keeps its place and its oldest LSN, another one
-/// comes to the end (buf0flu's `buf_flush_note_modification`). Takes no memory.
-pub(crate) fn soil(dirty: &mut VecDeque<Dirty>, page: PageId, span: Span)
-    requires room { deque_len dirty.old < deque_capacity dirty.old }
-    ensures items { dirty.new.items ≡ dirtied page span.start span.end dirty.old.items }
-    ensures room { deque_capacity dirty.new ≡ deque_capacity dirty.old }
-    ensures len { deque_len dirty.new ≤ deque_len dirty.old + 1 }
-{
-    match dirty_place(dirty, page) {
-        Some(place) => {
-            let listed = &mut dirty[place];
-            listed.newest = span.end;
-        }
-        None => dirty.push_back_reserved(Dirty {
-            page,
-            oldest: span.start,
-            newest: span.end,
-        }),
-    }
 }
 
 /// Reads the bytes of a page into the buffer.
@@ -144,4 +108,13 @@ pub(crate) fn free_frames(alloc: Global, frames: u32) -> Result<VecDeque<u32>, O
         free.push_back_reserved(frame);
     }
     Ok(free)
+}
+
+/// The flush list of no dirty page, with room for all frames.
+pub(crate) fn empty_flush(alloc: Global, frames: u32) -> Result<Flush, OutOfMemory>
+    ensures { IfOk result (λ flush. flush ≡ record { listed = []; room = frames }) }
+{
+    let mut flush = Flush::new(alloc);
+    flush.grow(frames)?;
+    Ok(flush)
 }

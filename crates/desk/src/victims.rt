@@ -1,37 +1,33 @@
 //! How a frame is had for a page that is not resident: a free one, or that of a victim (buf0lru's `buf_LRU_get_free_block`).
-ghost use Rattle.std.specs.Prelude.{List, ◌≡◌, ◌<◌, ◌≤◌, ◌+◌, ◌^◌, ◌++◌, [], ◌∷◌, ℕ, true, false, Some, None, Option, OnOk, OnErr, IfOk, IfErr, IfSome, IfNone, IsSome, MatchResult, Contains, IsPermutation, length, filter, slice_set};
+ghost use Rattle.std.specs.Prelude.{List, ◌≡◌, ◌<◌, ◌≤◌, ◌+◌, ◌^◌, ◌⊎◌, ◌++◌, [], ◌∷◌, ℕ, true, false, Some, None, Option, OnOk, OnErr, IfOk, IfErr, IfSome, IfNone, IsSome, MatchResult, Contains, IsPermutation, length, filter, slice_set, ◌⊎◌};
 ghost use Rattle.std.specs.List.Sorted.{IsNonDecreasingBy};
 ghost use Rattle.page_ids.specs.Content.{Content};
 ghost use Rattle.page_ids.specs.FrameWord.{fixes_of};
 ghost use Rattle.page_ids.specs.Same.{same_page};
 ghost use Rattle.page_ids.specs.declared.ids.PageId.{PageId};
-ghost use Rattle.page_ids.specs.declared.frame_word.Word.{Word};
 ghost use Rattle.page_disk.specs.Disks.{IsOtherwiseSame, Fades};
 ghost use Rattle.redo_mark.specs.Logs.{Seen};
-ghost use Rattle.trail.specs.History.{home, change};
+ghost use Rattle.trail.specs.History.{home};
 ghost use Rattle.trail.specs.Book.{book, next_frame};
 ghost use Rattle.trail.specs.Dirt.{dirty, dirt_of, is_dirty, log_end};
-ghost use Rattle.trail.specs.Victim.{walk, IsSought, AreAllFixed};
+ghost use Rattle.trail.specs.Victim.{walk};
 ghost use Rattle.trail.specs.declared.event.Dirty.{Dirty};
 ghost use Rattle.trail.specs.declared.event.Entry.{Entry};
-ghost use Rattle.frame_words.specs.Appends.{appended};
 ghost use Rattle.frame_words.specs.Conditions.{IsFree, IsSteady, AreFound};
 ghost use Rattle.frame_words.specs.Rows.{published_row};
 ghost use Rattle.frame_words.specs.Seen.{FramesSeen, row_at, Finds, KeepsRoom};
 ghost use Rattle.desk.specs.Base.{Opened};
 ghost use Rattle.desk.specs.Behind.{IsBehind};
-ghost use Rattle.desk.specs.Changes.{IsImageTold, IsWriteFault, LeavesDesk};
+ghost use Rattle.desk.specs.Changes.{IsImageTold, IsWriteFault, IsForced, LeavesDesk};
 ghost use Rattle.desk.specs.Claimed.{HasLooked, IsTaken, ArePassedBy, StopsAt, AreTiedBut, KeepsLog, Leaves, HasFrame, test_of, part_of, cause_of, refusal_of};
-ghost use Rattle.desk.specs.Fixing.{IsUnlogged};
 ghost use Rattle.desk.specs.Ledger.{IsVacant};
 ghost use Rattle.desk.specs.Logged.{IsLogged, AreUpTo};
-ghost use Rattle.desk.specs.State.{State};
-ghost use Rattle.desk.specs.Steps.{IsAppended, IsRefusedFix, next_entry};
+ghost use Rattle.desk.specs.Steps.{IsAppended, IsRefused};
 ghost use Rattle.desk.specs.Tied.{AreTied, HasTurn, IsOwn};
-ghost use Rattle.desk.specs.Victims.{AreSettled, IsCleanedFirst, IsHad, IsUnhad, LeavesTurn};
+ghost use Rattle.desk.specs.Victims.{AreSettled, IsCleanedFirst, IsHad, IsAhead, MustCover, IsUnhad, IsUnforced, AsksFor, LeavesTurn};
 ghost use Rattle.desk.specs.Walk.{AreOrderly};
 
-use crate::calls::{Caller, FixErr};
+use crate::calls::{Caller, FrameErr};
 use crate::desk::Desk;
 use crate::flush::{WriteErr, write_page};
 use frame_words::Frames;
@@ -167,6 +163,9 @@ impl<D: PageDisk> Desk<D> {
         ensures others { IsOtherwiseSame D.page_size D.tells D.told D.space_pages D.fault_count victim.page self.old.state.disk self.new.state.disk }
         ensures fault { IfErr result (λ e. IsWriteFault (D.fault_count self.old.state.disk) (D.fault_count self.new.state.disk)
             redo.old.seen.faults redo.new.seen.faults e) }
+        ensures covered { (redo.new ≡ redo.old) ⊎ IsAhead self.old.state.history victim.page redo.old.seen.durable }
+        ensures forced { IfErr result (λ e. IsForced self.old.state.disk self.new.state.disk
+            (IsAhead self.old.state.history victim.page redo.old.seen.durable) e) }
         ensures log { KeepsLog R.told redo.old redo.new self.old.state.history self.new.state.history }
     {
         let Victim { page, frame, .. } = victim;
@@ -197,6 +196,10 @@ impl<D: PageDisk> Desk<D> {
         ensures clean { OnOk result (is_dirty self.new.state.history victim.page ≡ false) }
         ensures failed { OnErr result (self.new ≡ record self.old { state = record self.old.state { disk = self.new.state.disk } }) }
         ensures soiled { OnErr result (is_dirty self.old.state.history victim.page ≡ true) }
+        ensures unused { is_dirty self.old.state.history victim.page ≡ false → self.new.state.disk ≡ self.old.state.disk }
+        ensures covered { (redo.new ≡ redo.old) ⊎ IsAhead self.old.state.history victim.page redo.old.seen.durable }
+        ensures forced { IfErr result (λ e. IsForced self.old.state.disk self.new.state.disk
+            (IsAhead self.old.state.history victim.page redo.old.seen.durable) e) }
         ensures fault { IfErr result (λ e. IsWriteFault (D.fault_count self.old.state.disk) (D.fault_count self.new.state.disk)
             redo.old.seen.faults redo.new.seen.faults e) }
         ensures but { AreTiedBut D.tells D.told D.space_pages (F.seen frames.new) self.new.state victim.page victim.frame }
@@ -259,25 +262,26 @@ impl<D: PageDisk> Desk<D> {
         );
     }
 
-    /// Gives a claimed frame back to its page, which could not be written, and appends the refusal of the fix.
+    /// Gives a claimed frame back to its page, which could not be written, and appends the refusal of the call.
     fn put_back<F: Frames>(
         &mut self,
         frames: &mut F,
         by: Caller,
         page: PageId,
-        now: u64,
+        call: Call,
         victim: Victim,
         error: WriteErr,
-    ) -> FixErr
+    ) -> FrameErr
         requires places { self.old.state.config.first + length self.old.state.history + 1 < 2 ^ 48 }
         requires room { 0 < self.old.room }
         requires but { AreTiedBut D.tells D.told D.space_pages (F.seen frames.old) self.old.state victim.page victim.frame }
         requires clock { (victim.clock ≡ (row_at (F.seen frames.old) victim.frame).clock) × (victim.clock < 2 ^ 48) }
         requires turn { HasTurn (F.seen frames.old) by }
         requires own { IsOwn (F.seen frames.old) self.old.state page }
+        requires asked { AsksFor page call }
         requires few { IfSome (F.seen frames.old).opened (λ opened. length opened < 64) }
         ensures refused { result ≡ refusal_of error }
-        ensures appended { IsRefusedFix self.old.state self.new.state by page now (cause_of error) }
+        ensures appended { IsRefused self.old.state self.new.state by call (cause_of error) }
         ensures disk { self.new.state.disk ≡ self.old.state.disk }
         ensures rows { (F.seen frames.new).rows ≡ slice_set (F.seen frames.old).rows victim.frame
             (published_row (row_at (F.seen frames.old) victim.frame) victim.page victim.clock) }
@@ -289,25 +293,25 @@ impl<D: PageDisk> Desk<D> {
     {
         let (cause, refusal) = causes_of(error);
         frames.publish(victim.frame, victim.page, victim.clock);
-        let call = Call::Fix { page, now };
         self.append(frames, by, Kind::Refused { call, cause });
         refusal
     }
 
-    /// Appends the refusal of a fix for which every frame was found with a fix.
+    /// Appends the refusal of a call for which every frame was found with a fix.
     fn refuse_full<F: Frames>(
         &mut self,
         frames: &mut F,
         by: Caller,
         page: PageId,
-        now: u64,
+        call: Call,
         passed: Vec<(u32, Word)>,
-    ) -> FixErr
+    ) -> FrameErr
         requires places { self.old.state.config.first + length self.old.state.history + 1 < 2 ^ 48 }
         requires room { 0 < self.old.room }
         requires tied { AreTied D.tells D.told D.space_pages (F.seen frames.old) self.old.state }
         requires turn { HasTurn (F.seen frames.old) by }
         requires own { IsOwn (F.seen frames.old) self.old.state page }
+        requires asked { AsksFor page call }
         requires few { IfSome (F.seen frames.old).opened (λ opened. length opened < 64) }
         requires orderly { AreOrderly self.old.state.config self.old.state.history }
         requires none_free { next_frame (book self.old.state.config self.old.state.history) ≡ None }
@@ -315,8 +319,8 @@ impl<D: PageDisk> Desk<D> {
         requires absent { home self.old.state.history page ≡ None }
         requires passed { ArePassedBy self.old.state.history (F.seen frames.old).rows (F.seen frames.old).found
             (walk self.old.state.config self.old.state.history) passed.items }
-        ensures refused { (disk_was disk_is log_was log_is : ℕ) → IsUnhad self.old.state self.new.state (F.seen frames.old).rows by page now
-            disk_was disk_is log_was log_is result }
+        ensures refused { (disk_was disk_is durable log_was log_is : ℕ) → IsUnhad self.old.state self.new.state (F.seen frames.old).rows by page call
+            disk_was disk_is durable log_was log_is result }
         ensures rows { (F.seen frames.new).rows ≡ (F.seen frames.old).rows }
         ensures disk { self.new.state.disk ≡ self.old.state.disk }
         ensures absent { home self.new.state.history page ≡ None }
@@ -333,14 +337,13 @@ impl<D: PageDisk> Desk<D> {
         let alloc = self.lists.allocator();
         let words = in_order(passed);
         let Ok(answer) = Vec::from_slice(alloc, words.as_slice()) else {
-            return FixErr::OutOfMemory;
+            return FrameErr::OutOfMemory;
         };
-        let call = Call::Fix { page, now };
         let seen = Words::of(words);
         let cause = Cause::AllFixed { seen };
         self.append(frames, by, Kind::Refused { call, cause });
         let seen = Words::of(answer);
-        FixErr::AllFixed { seen }
+        FrameErr::AllFixed { seen }
     }
 
     /// Evicts a victim, which is written first where it is dirty, and answers its frame.
@@ -350,14 +353,15 @@ impl<D: PageDisk> Desk<D> {
         redo: &mut Redo<R>,
         by: Caller,
         page: PageId,
-        now: u64,
-    ) -> Result<u32, FixErr>
+        call: Call,
+    ) -> Result<u32, FrameErr>
         requires places { self.old.state.config.first + length self.old.state.history + 2 < 2 ^ 48 }
         requires room { 2 ≤ self.old.room }
         requires tied { AreTied D.tells D.told D.space_pages (F.seen frames.old) self.old.state }
         requires settled { AreSettled (F.seen frames.old).rows }
         requires turn { HasTurn (F.seen frames.old) by }
         requires own { IsOwn (F.seen frames.old) self.old.state page }
+        requires asked { AsksFor page call }
         requires few { IfSome (F.seen frames.old).opened (λ opened. length opened < 64) }
         requires absent { home self.old.state.history page ≡ None }
         requires known { log_end self.old.state.history ≤ redo.old.seen.end }
@@ -365,10 +369,10 @@ impl<D: PageDisk> Desk<D> {
         requires none_free { next_frame (book self.old.state.config self.old.state.history) ≡ None }
         requires full { (f : ℕ) → f < self.old.state.config.frames → (p : PageId) × (home self.old.state.history p ≡ Some f) }
         ensures had { IfOk result (λ frame. HasFrame self.old self.new (F.seen frames.old) (F.seen frames.new) by frame) }
-        ensures refused { IfErr result (λ e. IsUnhad self.old.state self.new.state (F.seen frames.old).rows by page now
-            (D.fault_count self.old.state.disk) (D.fault_count self.new.state.disk) redo.old.seen.faults redo.new.seen.faults e) }
+        ensures refused { IfErr result (λ e. IsUnhad self.old.state self.new.state (F.seen frames.old).rows by page call
+            (D.fault_count self.old.state.disk) (D.fault_count self.new.state.disk) redo.old.seen.durable redo.old.seen.faults redo.new.seen.faults e) }
         ensures unmoved { OnErr result ((F.seen frames.new).rows ≡ (F.seen frames.old).rows) }
-        ensures unlogged { IfErr result (λ e. IsUnlogged redo.old redo.new e) }
+        ensures unforced { IfErr result (λ e. IsUnforced redo.old redo.new e) }
         ensures leaves { Leaves D.page_size D.tells D.told D.space_pages D.fault_count R.told page self.old.state self.new.state
             (F.seen frames.old) (F.seen frames.new) redo.old redo.new }
         ensures fixes { KeepsRoom (F.room frames.old) (F.room frames.new) }
@@ -376,36 +380,37 @@ impl<D: PageDisk> Desk<D> {
         let mut passed = Vec::new(self.lists.allocator());
         let victim = match self.seek(frames, &mut passed) {
             Ok(Some(victim)) => victim,
-            Ok(None) => return Err(self.refuse_full(frames, by, page, now, passed)),
-            Err(_) => return Err(FixErr::OutOfMemory),
+            Ok(None) => return Err(self.refuse_full(frames, by, page, call, passed)),
+            Err(_) => return Err(FrameErr::OutOfMemory),
         };
         match self.clean_first(frames, redo, by, victim) {
             Ok(()) => {
                 self.let_go(frames, by, victim, Words::of(in_order(passed)));
                 Ok(victim.frame)
             }
-            Err(error) => Err(self.put_back(frames, by, page, now, victim, error)),
+            Err(error) => Err(self.put_back(frames, by, page, call, victim, error)),
         }
     }
 
     /// A frame for a page that is not resident: the next free one, or that of a victim, which is written first where it is dirty.
     ///
-    /// Appends the entries `write` and `evict` of the victim, or the refusal of the fix. Memory is taken before anything changes; want of
-    /// memory changes nothing. A page that could not be written stays where it is, and is as dirty as it was.
+    /// Appends the entries `write` and `evict` of the victim, or the refusal of the call, which is a fix or a create. Memory is taken before
+    /// anything changes; want of memory changes nothing. A page that could not be written stays where it is, and is as dirty as it was.
     pub(crate) fn have_frame<F: Frames, R: RedoDisk>(
         &mut self,
         frames: &mut F,
         redo: &mut Redo<R>,
         by: Caller,
         page: PageId,
-        now: u64,
-    ) -> Result<u32, FixErr>
+        call: Call,
+    ) -> Result<u32, FrameErr>
         requires places { self.old.state.config.first + length self.old.state.history + 2 < 2 ^ 48 }
         requires room { 2 ≤ self.old.room }
         requires tied { AreTied D.tells D.told D.space_pages (F.seen frames.old) self.old.state }
         requires settled { AreSettled (F.seen frames.old).rows }
         requires turn { HasTurn (F.seen frames.old) by }
         requires own { IsOwn (F.seen frames.old) self.old.state page }
+        requires asked { AsksFor page call }
         requires few { IfSome (F.seen frames.old).opened (λ opened. length opened < 64) }
         requires absent { home self.old.state.history page ≡ None }
         requires known { log_end self.old.state.history ≤ redo.old.seen.end }
@@ -417,11 +422,12 @@ impl<D: PageDisk> Desk<D> {
         ensures turn { IfOk result (λ frame. LeavesTurn (F.seen frames.old) (F.seen frames.new)) }
         ensures room { IfOk result (λ frame. self.old.room ≤ self.new.room + 2) }
         ensures count { length self.new.state.history ≤ length self.old.state.history + 2 }
-        ensures refused { IfErr result (λ e. IsUnhad self.old.state self.new.state (F.seen frames.old).rows by page now
-            (D.fault_count self.old.state.disk) (D.fault_count self.new.state.disk) redo.old.seen.faults redo.new.seen.faults e) }
+        ensures refused { IfErr result (λ e. IsUnhad self.old.state self.new.state (F.seen frames.old).rows by page call
+            (D.fault_count self.old.state.disk) (D.fault_count self.new.state.disk) redo.old.seen.durable redo.old.seen.faults redo.new.seen.faults e) }
         ensures unmoved { OnErr result ((F.seen frames.new).rows ≡ (F.seen frames.old).rows) }
         ensures free { IsSome (next_frame (book self.old.state.config self.old.state.history)) → redo.new ≡ redo.old }
-        ensures unlogged { IfErr result (λ e. IsUnlogged redo.old redo.new e) }
+        ensures covered { (redo.new ≡ redo.old) ⊎ MustCover self.old.state (F.seen frames.old).rows redo.old.seen.durable }
+        ensures unforced { IfErr result (λ e. IsUnforced redo.old redo.new e) }
         ensures tied { AreTied D.tells D.told D.space_pages (F.seen frames.new) self.new.state }
         ensures settled { AreSettled (F.seen frames.new).rows }
         ensures page_told { D.told self.new.state.disk page ≡ D.told self.old.state.disk page }
@@ -433,7 +439,7 @@ impl<D: PageDisk> Desk<D> {
     {
         match self.lists.next_frame() {
             Some(frame) => Ok(frame),
-            None => self.evict(frames, redo, by, page, now),
+            None => self.evict(frames, redo, by, page, call),
         }
     }
 }
@@ -466,17 +472,17 @@ fn in_order(mut words: Vec<(u32, Word)>) -> Vec<(u32, Word)>
 }
 
 /// What is told of a page that could not be written, in the history and in the answer.
-fn causes_of(error: WriteErr) -> (Cause, FixErr)
+fn causes_of(error: WriteErr) -> (Cause, FrameErr)
     ensures { (result.0 ≡ cause_of error) × (result.1 ≡ refusal_of error) }
 {
     match error {
         WriteErr::RedoFault { before, after } => (
             Cause::RedoFault { before, after },
-            FixErr::RedoFault { before, after },
+            FrameErr::RedoFault { before, after },
         ),
         WriteErr::DiskFault { before, after } => (
             Cause::DiskFault { before, after },
-            FixErr::DiskFault { before, after },
+            FrameErr::DiskFault { before, after },
         ),
     }
 }

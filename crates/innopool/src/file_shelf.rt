@@ -27,6 +27,8 @@ impl<'a> FileShelf<'a> {
     /// The shelf of the files of these names. The pages of `file` are those of the space.
     pub fn new(rt: &'a HostRuntime, space: u32, file: &'a str, log: &'a str) -> FileShelf<'a>
         ensures space { result.space ≡ space }
+        ensures file { result.file ≡ file.entry }
+        ensures log { result.log ≡ log.entry }
         ensures asked { result.asked ≡ unasked }
         ensures faults { result.faults ≡ 0 }
     {

@@ -113,6 +113,7 @@ impl PageDisk for TablespaceFile {
     fn sync(&mut self) -> Result<(), Failed>
         ensures same { IsSameDisk size_of tells_of told_of spaces_of faults_of self.old self.new }
         ensures synced { OnOk result (IsTrue (synced_of self.new)) }
+        ensures failed { OnErr result (synced_of self.new ≡ synced_of self.old) }
         ensures cause { IsCounted (faults_of self.old) (faults_of self.new) result }
         ensures once { CountsOnce (faults_of self.old) (faults_of self.new) result }
     {

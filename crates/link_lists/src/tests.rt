@@ -4,7 +4,7 @@ ghost use Rattle.link_lists.specs.Grid.{Grid, times};
 ghost use Rattle.link_lists.specs.Chains.{IsChain, Keeps};
 
 use crate::{Chain, Nodes, OutOfMemory};
-use std::alloc::Global;
+use std::alloc::{AllocError, Global};
 use std::marker::Model;
 use std::process::Abort;
 use std::test::Fail;
@@ -213,11 +213,60 @@ impl Trio {
         (prev, next)
     }
 
+    /// The front of the first chain, and what follows each of its first four nodes.
+    fn forward(&self, alloc: Global) -> Result<Vec<u32>, AllocError> {
+        let mut nodes = Vec::new(alloc);
+        add(&mut nodes, self.ends().0)?;
+        for place in 0..4 {
+            add(&mut nodes, self.beside(place).1)?;
+        }
+        Ok(nodes)
+    }
+
+    /// The back of the first chain, and what precedes each of its first four nodes.
+    fn backward(&self, alloc: Global) -> Result<Vec<u32>, AllocError> {
+        let mut nodes = Vec::new(alloc);
+        add(&mut nodes, self.ends().1)?;
+        for place in [3, 2, 1, 0] {
+            add(&mut nodes, self.beside(place).0)?;
+        }
+        Ok(nodes)
+    }
+
+    /// The first chain tells these nodes.
+    fn check_walks(
+        &self,
+        rt: &impl Abort,
+        alloc: Global,
+        forward: &[u32],
+        backward: &[u32],
+    ) -> Result<(), AllocError> {
+        assert_eq!(rt; self.forward(alloc)?.as_slice(), forward);
+        assert_eq!(rt; self.backward(alloc)?.as_slice(), backward);
+        Ok(())
+    }
+
     fn check(&self, rt: &impl Abort) {
         self.first.check(rt, &self.nodes);
         self.second.check(rt, &self.nodes);
         self.third.check(rt, &self.nodes);
     }
+
+    /// The chains' answers are the lists', and the lists are these.
+    fn check_lists(&self, rt: &impl Abort, first: &[u32], second: &[u32], third: &[u32]) {
+        self.check(rt);
+        assert_eq!(rt; self.first.list.as_slice(), first);
+        assert_eq!(rt; self.second.list.as_slice(), second);
+        assert_eq!(rt; self.third.list.as_slice(), third);
+    }
+}
+
+/// Adds a node, where there is one.
+fn add(nodes: &mut Vec<u32>, node: Option<u32>) -> Result<(), AllocError> {
+    if let Some(node) = node {
+        nodes.push(node)?;
+    }
+    Ok(())
 }
 
 /// Three thousand steps, by the numbers of Knuth's linear congruential generator for MMIX.
@@ -242,43 +291,48 @@ fn chains_are_their_lists(rt: HostRuntime) -> Result<(), Fail> {
     Ok(())
 }
 
-#[test]
-fn more_nodes_leave_the_chains(rt: HostRuntime) -> Result<(), Fail> {
-    let mut trio = Trio::new(rt.alloc(), 4)?;
+/// Nodes 0 to 3 in the first chain, and the other way round in the third.
+fn four_nodes(alloc: Global) -> Result<Trio, OutOfMemory>
+    ensures { IfOk result (λ trio. trio ≡ 4) }
+{
+    let mut trio = Trio::new(alloc, 4)?;
     for node in 0..4 {
         trio.turn(0, false, 9, node)?;
         trio.turn(2, true, 9, node)?;
     }
-    trio.grow(9)?;
-    trio.check(&rt);
-    assert_eq!(rt; trio.first.list.as_slice(), [0, 1, 2, 3].as_slice());
-    assert_eq!(rt; trio.third.list.as_slice(), [3, 2, 1, 0].as_slice());
-    trio.turn(1, true, 9, 8)?;
-    trio.grow(2)?;
-    trio.turn(2, false, 9, 8)?;
-    trio.check(&rt);
-    assert_eq!(rt; trio.second.list.as_slice(), [8].as_slice());
-    assert_eq!(rt; trio.third.list.as_slice(), [3, 2, 1, 0, 8].as_slice());
-    Ok(())
+    Ok(trio)
 }
 
 #[test]
+fn more_nodes_leave_the_chains(rt: HostRuntime) -> Result<(), Fail> {
+    let mut trio = four_nodes(rt.alloc())?;
+    trio.grow(9)?;
+    trio.check_lists(&rt, &[0, 1, 2, 3], &[], &[3, 2, 1, 0]);
+    trio.turn(1, true, 9, 8)?;
+    trio.grow(2)?;
+    trio.turn(2, false, 9, 8)?;
+    trio.check_lists(&rt, &[0, 1, 2, 3], &[8], &[3, 2, 1, 0, 8]);
+    Ok(())
+}
+
+/// Turns of the first chain, each with the nodes that the chain tells then, forward and backward.
+const TURNS: [(bool, usize, u32, &[u32], &[u32]); 5] = [
+    (false, 9, 2, &[2], &[2]),
+    (true, 9, 3, &[3, 2], &[2, 3]),
+    (true, 1, 0, &[3, 0, 2], &[2, 0, 3]),
+    (false, 1, 1, &[3, 1, 2], &[2, 1, 3]),
+    (true, 0, 3, &[1, 2], &[2, 1]),
+];
+
+#[test]
 fn a_chain_has_ends_and_neighbours(rt: HostRuntime) -> Result<(), Fail> {
-    let mut trio = Trio::new(rt.alloc(), 4)?;
-    assert_eq!(rt; trio.ends(), (None, None));
-    trio.turn(0, false, 9, 2)?;
-    assert_eq!(rt; trio.ends(), (Some(2), Some(2)));
-    assert_eq!(rt; trio.beside(0), (None, None));
-    trio.turn(0, true, 9, 3)?;
-    trio.turn(0, true, 1, 0)?;
-    assert_eq!(rt; trio.ends(), (Some(3), Some(2)));
-    assert_eq!(rt; trio.beside(0), (None, Some(0)));
-    assert_eq!(rt; trio.beside(1), (Some(3), Some(2)));
-    assert_eq!(rt; trio.beside(2), (Some(0), None));
-    trio.turn(0, false, 1, 1)?;
-    trio.turn(0, true, 0, 3)?;
-    assert_eq!(rt; trio.ends(), (Some(1), Some(2)));
-    assert_eq!(rt; trio.beside(0), (None, Some(2)));
-    assert_eq!(rt; trio.beside(1), (Some(1), None));
+    let alloc = rt.alloc();
+    let mut trio = Trio::new(alloc, 4)?;
+    trio.check_walks(&rt, alloc, &[], &[])?;
+    for (first, place, node, forward, backward) in TURNS {
+        assert!(rt; node < 4);
+        trio.turn(0, first, place, node)?;
+        trio.check_walks(&rt, alloc, forward, backward)?;
+    }
     Ok(())
 }

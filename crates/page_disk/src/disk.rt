@@ -65,6 +65,7 @@ pub trait PageDisk: Send + Drop {
     fn sync(&mut self) -> Result<(), Failed>
         ensures same { IsSameDisk page_size tells told space_pages fault_count self.old self.new }
         ensures synced { OnOk result (IsTrue (synced self.new)) }
+        ensures failed { OnErr result (synced self.new ≡ synced self.old) }
         ensures cause { IsCounted (fault_count self.old) (fault_count self.new) result };
 
     /// How many pages the space has; `None` for a space that isn't there.

@@ -73,6 +73,14 @@ impl Image {
         self.lsn = lsn;
     }
 
+    /// Makes the page one of zeros, with this LSN: that of the end of its creation in the log (buf0buf's `buf_page_create`).
+    pub fn clear(&mut self, lsn: u64)
+        ensures { self.new ≡ record { lsn = lsn; bytes = replicate (length self.old.bytes) 0 } }
+    {
+        self.bytes.fill(0);
+        self.lsn = lsn;
+    }
+
     /// Copies all bytes as they are kept, with 0 for what is stamped.
     pub(crate) fn copy_whole(&self, out: &mut [u8])
         requires { length out.old ≡ length self.now.bytes }

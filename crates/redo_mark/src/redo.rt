@@ -244,6 +244,7 @@ impl<R: RedoDisk> Redo<R> {
         ensures kept { IsKept self.new.seen (R.told self.new.disk) }
         ensures whole { IsWhole self.new.seen }
         ensures disk { (self.new.disk ≡ self.old.disk) × (self.new.opening ≡ self.old.opening) }
+        ensures mark { self.new.seen.durable ≡ self.old.seen.durable }
         ensures spent { IfErr result (λ e. (self.old.seen.end ≤ e.end) × (e.end ≤ self.new.seen.end)
             × (2 ^ 63 < e.end + length draft + 8)) }
         ensures full { 2 ^ 63 < self.old.seen.end + length draft + 8 → IsErr result }
@@ -278,6 +279,7 @@ impl<R: RedoDisk> Redo<R> {
         ensures opening { self.new.opening ≡ self.old.opening }
         ensures idle { lsn ≤ self.old.seen.durable → (self.new ≡ self.old) × IsOk result }
         ensures all { self.old.seen.durable < lsn → OnOk result (self.new.seen.durable ≡ self.old.seen.end) }
+        ensures end { self.new.seen.end ≡ self.old.seen.end }
         ensures err { OnErr result (self.new.seen ≡ record self.old.seen { faults = self.new.seen.faults }) }
         ensures beyond { (l end : ℕ) → result ≡ Err (CoverErr.BeyondEnd l end)
             → (l ≡ lsn) × (self.old.seen.end ≤ end) × (end < lsn) × (self.new ≡ self.old) }

@@ -1,9 +1,10 @@
 -- What a command leaves of desk and worker, apart from laws.
-use Rattle.std.proofs.Common.{◌≡◌, ℕ, suc, Bool, true, false, cond, List, [], ◌∷◌, ◌++◌, ◌+◌, ◌<◌, ◌≤◌, Option, Some, None, length, refl, ap, ◌∙◌, sym, subst, IsSome, arith, slice_get, drop, take, reverse, append_assoc}
+use Rattle.std.proofs.Common.{◌≡◌, ℕ, zero, suc, Bool, true, false, cond, List, [], ◌∷◌, ◌++◌, ◌+◌, ◌<◌, ◌≤◌, Option, Some, None, length, refl, ap, ◌∙◌, sym, subst, IsSome, arith, slice_get, drop, take, reverse, append_assoc}
 use Rattle.std.proofs.lemmas.List.{reverse-append}
 use Rattle.page_ids.specs.Content.{patched}
 use Rattle.page_ids.specs.Same.{same_page}
 use Rattle.page_ids.specs.declared.ids.PageId.{PageId}
+use Rattle.page_ids.specs.declared.config.Config.{Config}
 use Rattle.redo_mark.specs.Logs.{Seen, Grows, IsLater}
 use Rattle.trail.specs.declared.event.Entry.{Entry}
 use Rattle.trail.specs.declared.event.Held.{Held}
@@ -23,15 +24,17 @@ use Rattle.frame_words.specs.Plain.{Plain, seen_of, held_of}
 use Rattle.frame_words.specs.Rows.{Row}
 use Rattle.desk.specs.State.{State}
 use Rattle.desk.specs.Base.{Opened}
-use Rattle.desk.specs.Changes.{IsPutBy, IsSpentBy, changed_row}
+use Rattle.desk.specs.Changes.{IsPutBy, IsSpentBy, WritesBack, IsCleanedBy, changed_row}
+use Rattle.desk.specs.Checks.{IsChecked}
+use Rattle.desk.specs.Ledger.{entry_behind}
 use Rattle.desk.specs.Steps.{IsHit, IsLoaded, IsAppended, next_entry, row_in, loaded_row}
 use Rattle.desk.specs.Tied.{AreTied}
 use Rattle.desk.specs.Victims.{IsHad}
 use Rattle.desk.specs.Fixing.{IsMiss}
 use Rattle.desk.specs.declared.calls.Caller.{Caller}
-use Rattle.script_run.specs.Work.{Senses, Working, AreHoused, AreHeld, IsReady, IsAtRest, IsBehindIt, Along, answered, noted, given_at}
+use Rattle.script_run.specs.Work.{Senses, Working, AreHoused, AreHeld, IsReady, IsAtRest, IsBehindIt, Along, with_answer, with_note, given_at}
 use Rattle.script_run.proofs.Fixes.{one_page, split_at, reverse_around}
-use Rattle.script_run.proofs.Values.{Leaves, fix_leaves, put_leaves, refused_leaves}
+use Rattle.script_run.proofs.Values.{Leaves, fix_leaves, put_leaves, write_leaves, check_leaves, refused_leaves}
 use Rattle.script_run.proofs.Growing.{me, Left, left_same, left_more}
 use Rattle.script_run.proofs.Staying.{Stays, stays_ready, stays_rows, stays_at, stays_quiet, stays_load, stays_had}
 use Rattle.script_run.proofs.Framing.{held_more, held_kept, ready_given, behind_given, rest_mid, some_held}
@@ -73,11 +76,11 @@ abbrev pub Ties : {D : Type 0} → Senses D → State D → Plain → Type 0
 Ties sense desk frames = AreTied sense.tells sense.told sense.spaces (seen_of frames) desk
 
 -- a call's entries came, and its answer
-along_of : {D : Type 0} (sense : Senses D) (old new : State D) (before after : Plain) (was is : Seen) (w : Working) (k : Kind) → Left sense old new → length new.history ≤ length old.history + 4
-    → (IsReady sense old before w.fixed → Stays new.config new.history after.rows (answered w k).fixed × (length (answered w k).fixed ≤ 64))
+along_by : {D : Type 0} (sense : Senses D) (old new : State D) (before after : Plain) (was is : Seen) (w : Working) (k : Kind) → Left sense old new → length new.history ≤ length old.history + 16385
+    → (IsReady sense old before w.fixed → Stays new.config new.history after.rows (with_answer w k).fixed × (length (with_answer w k).fixed ≤ 64))
     → Keeps sense old new before after → Ties sense new after → IsLater was is → log_end new.history ≤ is.end
-    → Along sense 1 old new before after was is w (answered w k)
-along_of sense old new before after was is w k left grown stays behind tied later known = record {
+    → Along sense 1 old new before after was is w (with_answer w k)
+along_by sense old new before after was is w k left grown stays behind tied later known = record {
   left = left;
   grown = grown;
   pass = refl;
@@ -88,9 +91,16 @@ along_of sense old new before after was is w k left grown stays behind tied late
   known = λ _. known;
 }
 
+-- at most four came
+pub along_of : {D : Type 0} (sense : Senses D) (old new : State D) (before after : Plain) (was is : Seen) (w : Working) (k : Kind) → Left sense old new → length new.history ≤ length old.history + 4
+    → (IsReady sense old before w.fixed → Stays new.config new.history after.rows (with_answer w k).fixed × (length (with_answer w k).fixed ≤ 64))
+    → Keeps sense old new before after → Ties sense new after → IsLater was is → log_end new.history ≤ is.end
+    → Along sense 1 old new before after was is w (with_answer w k)
+along_of sense old new before after was is w k left grown stays behind tied later known = along_by sense old new before after was is w k left (omega (arith, grown)) stays behind tied later known
+
 -- a fix is granted where the page is
 stays_hit : {D : Type 0} {rows more : List Row} (mid new : State D) (w : Working) (p : PageId) (now : ℕ) (g : Granted) → IsHit mid new rows more (me w) p now g
-    → Stays mid.config mid.history rows w.fixed → Stays new.config new.history more (answered w (kind.Fix p g.frame g.clock now)).fixed
+    → Stays mid.config mid.history rows w.fixed → Stays new.config new.history more (with_answer w (kind.Fix p g.frame g.clock now)).fixed
 stays_hit {D} {rows} {more} mid new w p now g hit was =
     let k = kind.Fix p g.frame g.clock now in
     let e : Entry = next_entry mid (me w) k in
@@ -103,7 +113,7 @@ stays_hit {D} {rows} {more} mid new w p now g hit was =
 pub along_hit : {D : Type 0} (sense : Senses D) (old new : State D) (before after : Plain) (was is : Seen) (w : Working) (p : PageId) (now : ℕ) (g : Granted)
     → IsHit old new before.rows after.rows (me w) p now g → length w.fixed < 64 → Left sense old new → length new.history ≤ length old.history + 4
     → Keeps sense old new before after → Ties sense new after → IsLater was is → log_end new.history ≤ is.end
-    → Along sense 1 old new before after was is w (answered w (kind.Fix p g.frame g.clock now))
+    → Along sense 1 old new before after was is w (with_answer w (kind.Fix p g.frame g.clock now))
 along_hit sense old new before after was is w p now g hit few left grown behind tied later known =
     along_of sense old new before after was is w (kind.Fix p g.frame g.clock now) left grown
     (λ ready. (stays_hit old new w p now g hit (stays_ready sense old before w.fixed ready), omega (arith, few))) behind tied later known
@@ -121,7 +131,7 @@ stays_loaded {D} {rows} {more} told had mid w p f loaded was =
 pub along_miss : {D : Type 0} (sense : Senses D) (old new : State D) (before after : Plain) (was is : Seen) (w : Working) (p : PageId) (now : ℕ) (g : Granted)
     → IsMiss sense.told old new before.rows after.rows (me w) p now g → length w.fixed < 64 → Left sense old new → length new.history ≤ length old.history + 4
     → Keeps sense old new before after → Ties sense new after → IsLater was is → log_end new.history ≤ is.end
-    → Along sense 1 old new before after was is w (answered w (kind.Fix p g.frame g.clock now))
+    → Along sense 1 old new before after was is w (with_answer w (kind.Fix p g.frame g.clock now))
 along_miss sense old new before after was is w p now g miss few left grown behind tied later known =
     along_of sense old new before after was is w (kind.Fix p g.frame g.clock now) left grown
     (λ ready. (stays_hit miss.mid new w p now g miss.hit (stays_loaded sense.told miss.had miss.mid w p g.frame miss.loaded (stays_had sense old miss.had before w g.frame ready miss.frame_is)), omega (arith, few)))
@@ -129,7 +139,7 @@ along_miss sense old new before after was is w p now g miss few left grown behin
 
 -- an entry that leaves every home and every fix, behind those by which a frame may have been had
 stays_entry : {D : Type 0} (had new : State D) (rows : List Row) (w : Working) (k : Kind) → IsAppended had new (me w) k → Leaves k → held_after_kind w.next k w.fixed ≡ w.fixed → length w.fixed ≤ 64
-    → Stays had.config had.history rows w.fixed → Stays new.config new.history rows (answered w k).fixed × (length (answered w k).fixed ≤ 64)
+    → Stays had.config had.history rows w.fixed → Stays new.config new.history rows (with_answer w k).fixed × (length (with_answer w k).fixed ≤ 64)
 stays_entry had new rows w k entry leaves kept few was =
     let e : Entry = next_entry had (me w) k in
     let F : List Held → Type 0 = λ fixed. Stays new.config new.history rows fixed in (
@@ -148,7 +158,7 @@ rows_stay before after fixed same held = let R : List Row → Type 0 = λ rows. 
 pub along_refused : {D : Type 0} (sense : Senses D) (old new : State D) (before after : Plain) (was is : Seen) (w : Working) (c : Call) (why : Cause)
     → IsAppended old new (me w) (kind.Refused c why) → after.rows ≡ before.rows → Left sense old new → length new.history ≤ length old.history + 4
     → Keeps sense old new before after → Ties sense new after → IsLater was is → log_end new.history ≤ is.end
-    → Along sense 1 old new before after was is w (answered w (kind.Refused c why))
+    → Along sense 1 old new before after was is w (with_answer w (kind.Refused c why))
 along_refused sense old new before after was is w c why entry unmoved left grown behind tied later known =
     let k = kind.Refused c why in
     along_of sense old new before after was is w k left grown
@@ -158,18 +168,50 @@ along_refused sense old new before after was is w c why entry unmoved left grown
 pub along_unread : {D : Type 0} (sense : Senses D) (old had new : State D) (before after : Plain) (was is : Seen) (w : Working) (c : Call) (why : Cause) (f : ℕ)
     → IsHad old had before.rows after.rows (me w) f → IsAppended had new (me w) (kind.Refused c why) → Left sense old new → length new.history ≤ length old.history + 4
     → Keeps sense old new before after → Ties sense new after → IsLater was is → log_end new.history ≤ is.end
-    → Along sense 1 old new before after was is w (answered w (kind.Refused c why))
+    → Along sense 1 old new before after was is w (with_answer w (kind.Refused c why))
 along_unread sense old had new before after was is w c why f frame_is entry left grown behind tied later known =
     let k = kind.Refused c why in
     along_of sense old new before after was is w k left grown
     (λ ready. stays_entry had new after.rows w k entry (refused_leaves c why) refl ready.few (stays_had sense old had before w f ready frame_is)) behind tied later known
+
+-- pages were written, one after the other
+stays_writes : (config : Config) (first : ℕ) (by : Caller) (n : ℕ) (old mid : List Entry) (rows : List Row) (fixed : List Held) → WritesBack first by n old mid → Stays config old rows fixed → Stays config mid rows fixed
+stays_writes config first by zero old mid rows fixed same was = stays_at config config old mid rows fixed refl same was
+stays_writes config first by (suc n) old mid rows fixed (between, writes, back) was =
+    let x : Entry = entry_behind first between by (kind.Write back.oldest.page back.oldest.newest back.upto) in
+    stays_at config config (x ∷ between) mid rows fixed refl back.entry
+    (stays_quiet config between x rows fixed (write_leaves back.oldest.page back.oldest.newest back.upto) (stays_writes config first by n old between rows fixed writes was))
+
+-- an entry for each
+writes_longer : (first : ℕ) (by : Caller) (n : ℕ) (old mid : List Entry) → WritesBack first by n old mid → length mid ≡ length old + n
+writes_longer first by zero old mid same = let long = ap (length {A = Entry}) same in omega (arith, long)
+writes_longer first by (suc n) old mid (between, writes, back) =
+    let long = ap (length {A = Entry}) back.entry in let rest = writes_longer first by n old between writes in omega (arith, long, rest)
+
+-- a clean, and what answers it
+pub along_cleaned : {D : Type 0} (sense : Senses D) (old new : State D) (before after : Plain) (was is : Seen) (w : Working) (n : ℕ) (k : Kind)
+    → IsCleanedBy old new (me w) n k → n ≤ 16384 → Leaves k → held_after_kind w.next k w.fixed ≡ w.fixed → after.rows ≡ before.rows → Left sense old new
+    → Keeps sense old new before after → Ties sense new after → IsLater was is → log_end new.history ≤ is.end
+    → Along sense 1 old new before after was is w (with_answer w k)
+along_cleaned sense old new before after was is w n k cleaned most leaves kept unmoved left behind tied later known =
+    let e : Entry = entry_behind old.config.first cleaned.mid (me w) k in
+    let F : List Held → Type 0 = λ fixed. Stays new.config new.history after.rows fixed in
+    let long = writes_longer old.config.first (me w) n old.history cleaned.mid cleaned.writes in
+    let all = ap (length {A = Entry}) cleaned.history in
+    along_by sense old new before after was is w k left (omega (arith, long, all, most))
+    (λ ready. (
+      subst F (sym kept) (stays_at old.config new.config (e ∷ cleaned.mid) new.history after.rows w.fixed cleaned.config cleaned.history
+          (stays_quiet old.config cleaned.mid e after.rows w.fixed leaves (stays_writes old.config old.config.first (me w) n old.history cleaned.mid after.rows w.fixed cleaned.writes
+          (stays_moved sense old before after w.fixed (rows_stay before after w.fixed unmoved) ready)))),
+      omega (arith, ready.few, ap (length {A = Held}) kept),
+    )) behind tied later known
 
 one_entry : {D : Type 0} (old new : State D) (by : Caller) (k : Kind) → IsAppended old new by k → length new.history ≤ length old.history + 4
 one_entry old new by k entry = omega (arith, ap (length {A = Entry}) entry.history)
 
 pub along_put : {D : Type 0} (sense : Senses D) (old new : State D) (before after : Plain) (was is : Seen) (w : Working) (p : PageId) (at : ℕ) (bytes : List ℕ) (done : PutDone)
     → (by : IsPutBy old new before.rows after.rows (me w) p at bytes done) → Keeps sense old new before after → Ties sense new after → IsLater was is → log_end new.history ≤ is.end
-    → Along sense 1 old new before after was is w (answered w (kind.Put p at bytes by.start done.lsn))
+    → Along sense 1 old new before after was is w (with_answer w (kind.Put p at bytes by.start done.lsn))
 along_put {D} sense old new before after was is w p at bytes done by behind tied later known =
     let k = kind.Put p at bytes by.start done.lsn in
     let R : List Row → Type 0 = λ rows. AreHeld rows w.fixed in
@@ -180,13 +222,33 @@ along_put {D} sense old new before after was is w p at bytes done by behind tied
 
 pub along_spent : {D : Type 0} (sense : Senses D) (old new : State D) (before after : Plain) (was is : Seen) (w : Working) (p : PageId) (at : ℕ) (bytes : List ℕ) (end : ℕ)
     → IsSpentBy old new (me w) p at bytes was.end is.end end → after.rows ≡ before.rows → Keeps sense old new before after → Ties sense new after → IsLater was is → log_end new.history ≤ is.end
-    → Along sense 1 old new before after was is w (answered w (kind.Refused (call.Put p at bytes) (cause.LogSpent end)))
+    → Along sense 1 old new before after was is w (with_answer w (kind.Refused (call.Put p at bytes) (cause.LogSpent end)))
 along_spent sense old new before after was is w p at bytes end spent unmoved behind tied later known =
     along_refused sense old new before after was is w (call.Put p at bytes) (cause.LogSpent end) spent.entry unmoved
     (left_same sense old new spent.entry.config spent.entry.instance spent.disk) (one_entry old new (me w) (kind.Refused (call.Put p at bytes) (cause.LogSpent end)) spent.entry) behind tied later known
 
+-- a checkpoint
+pub along_checked : {D : Type 0} (sense : Senses D) (old new : State D) (frames : Plain) (log : Seen) (w : Working) (lsn : ℕ)
+    → IsChecked old new (me w) log.end lsn → Keeps sense old new frames frames → (Ties sense old frames → Ties sense new frames) → log_end new.history ≤ log.end
+    → Along sense 1 old new frames frames log log w (with_answer w (kind.Check lsn))
+along_checked sense old new frames log w lsn checked behind tied known =
+    let k = kind.Check lsn in
+    let long = one_entry old new (me w) k checked.entry in
+    record {
+      left = left_same sense old new checked.entry.config checked.entry.instance checked.disk;
+      grown = omega (arith, long);
+      pass = refl;
+      next = refl;
+      ready = λ ready.
+          let is = stays_entry old new frames.rows w k checked.entry (check_leaves lsn) refl ready.few (stays_ready sense old frames w.fixed ready) in
+          record { tied = tied ready.tied; homes = is.0.homes; apart = is.0.apart; housed = is.0.housed; held = is.0.held; few = is.1 };
+      behind = behind;
+      log = later_here log;
+      known = λ _. known;
+    }
+
 -- a receipt that gives no fix back, or the fix that its call got
-pub along_kept : {D : Type 0} (sense : Senses D) (desk : State D) (frames : Plain) (log : Seen) (w : Working) (n : Note) → held_after_note w.next n w.fixed ≡ w.fixed → Along sense 1 desk desk frames frames log log w (noted desk w n)
+pub along_kept : {D : Type 0} (sense : Senses D) (desk : State D) (frames : Plain) (log : Seen) (w : Working) (n : Note) → held_after_note w.next n w.fixed ≡ w.fixed → Along sense 1 desk desk frames frames log log w (with_note desk w n)
 along_kept sense desk frames log w n kept =
     let H : List Held → Type 0 = λ held. IsReady sense desk frames held in
     record {

@@ -57,6 +57,7 @@ ended_run {D} {R} sense report shelf disk log plan fault trails disks redo is te
           let size = page_bytes plan.config.page in
           record {
             saved = λ p inside. on_some (sense.told is.disk p) _ _ (λ bytes e page. let P : Option (List ℕ) → Type 0 = λ t. IsSavedPage (is_written h p) t (saved size base h p) p bytes in subst P (tells p) page) (held.saved p inside);
+            told = λ p inside clean there. let S : Option (List ℕ) → Type 0 = λ t. IsSome t in held.told p inside clean (subst S (sym (tells p)) there);
             whole = λ fine p inside. on_some (sense.told is.disk p) _ _ (λ bytes e page. let P : Option (List ℕ) → Type 0 = λ t. IsValuedPage t (value size base h p) p bytes in subst P (tells p) page) (held.whole fine p inside);
           };
       logs = subst W log_is is.logs;

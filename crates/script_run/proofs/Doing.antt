@@ -21,6 +21,7 @@ use Rattle.trail.specs.declared.event.Note.{Note}
 use Rattle.trail.specs.declared.event.Note.TheVariants as note
 use Rattle.trail.specs.declared.event.Kind.{Kind}
 use Rattle.trail.specs.declared.event.Kind.TheVariants as kind
+use Rattle.trail.specs.declared.event.Call.{Call}
 use Rattle.trail.specs.declared.event.Call.TheVariants as call
 use Rattle.trail.specs.declared.event.Cause.{Cause}
 use Rattle.trail.specs.declared.event.Cause.TheVariants as cause
@@ -29,7 +30,7 @@ use Rattle.trail.specs.History.{home, change, value, after_cause, disk_faults, d
 use Rattle.trail.specs.Dirt.{log_end}
 use Rattle.trail.specs.Calls.{kind_answers, held_by, held_after_kind, newest_of}
 use Rattle.trail.specs.Opening.{Opening, OnValue}
-use Rattle.trail.specs.Legal.{IsTogether, MayPrecede, MayPrecedeUnfixed, IsLegalKind}
+use Rattle.trail.specs.Legal.{IsTogether, MayPrecede, MayPrecedeUnfixed, MayPrecedeRefusal, IsLegalKind}
 use Rattle.trail.specs.Covered.{IsCoveredKind}
 use Rattle.trail.specs.Causes.{due, outside, hold_full, not_held, IsOther, IsRefused, IsCausedKind}
 use Rattle.trail.specs.Victim.{AreAllFixed, IsVictimKind}
@@ -37,7 +38,7 @@ use Rattle.page_ids.specs.FrameWord.{AreRising}
 use Rattle.trail.specs.Alone.{AreExactWords, words_told, cause_words}
 use Rattle.trail.specs.Book.{book, next_frame}
 use Rattle.trail.specs.Laws.{IsLawful, IsStillKind}
-use Rattle.trail.specs.Promises.{IsPromised, is_excuse, is_own, is_noted}
+use Rattle.trail.specs.Promises.{IsPromised, IsFairRefusal, is_excuse, is_own, is_noted}
 use Rattle.desk.specs.declared.calls.Granted.{Granted}
 use Rattle.desk.specs.declared.calls.PutDone.{PutDone}
 use Rattle.frame_words.specs.Plain.{Plain, seen_of}
@@ -52,41 +53,42 @@ use Rattle.desk.specs.Victims.{IsHad}
 use Rattle.desk.specs.Fixing.{IsMiss, IsHeldFull, IsUnseated, IsUnwritten}
 use Rattle.desk.specs.Logged.{IsLogged, IsLoggedKind}
 use Rattle.desk.specs.Changes.{IsBody, IsPutBy, IsSpentBy}
+use Rattle.script_text.specs.declared.script.Command.{Command}
 use Rattle.script_text.specs.declared.script.Command.TheVariants as command
 use Rattle.script_run.specs.Openings.{Start, IsKindWithin, opened_of}
-use Rattle.script_run.specs.Todo.{IsReceiptOf, IsEntryOf, IsRefusal}
-use Rattle.script_run.specs.Work.{Senses, Working, SoFar, StandsBehind, IsReady, IsCopy, Does, AreFalling, answered, noted, next_receipt}
+use Rattle.script_run.specs.Todo.{Answers, IsReceiptOf, IsEntryOf, IsRefusal}
+use Rattle.script_run.specs.Work.{Senses, Working, SoFar, StandsBehind, IsReady, IsRangeOf, Does, AreFalling, with_answer, with_note, next_receipt}
 use Rattle.script_run.proofs.Fixes.{falling_up, newest_held}
 use Rattle.script_run.proofs.Growing.{me, Left, left_same, on_some, Moves, placed, grown, logged_rest, so_far_placed, so_far_after, so_far_answer, so_far_under, so_far_receipt, lawful_entry, lawful_receipt}
 use Rattle.script_run.proofs.Exact.{exact_words}
 use Rattle.script_run.proofs.Having.{Readied, readied_none, readied, logged_before, had_config}
 
 -- whether the page lies in its space
-inside_due : (o : Opening) (p : PageId) → p.page < o.pages p.space → outside o p ≡ None
+pub inside_due : (o : Opening) (p : PageId) → p.page < o.pages p.space → outside o p ≡ None
 inside_due o p inside = ap (λ (b : Bool). cond b (Some (cause.NoSuchPage (o.pages p.space))) None) (not_le (o.pages p.space) p.page inside)
   where
     not_le : (m n : ℕ) → n < m → nat_le m n ≡ false
     not_le m n lt = grind (arith, nat_tests)
 
-outside_due : (o : Opening) (p : PageId) (pages : ℕ) → pages ≡ o.pages p.space → pages ≤ p.page → outside o p ≡ Some (cause.NoSuchPage pages)
+pub outside_due : (o : Opening) (p : PageId) (pages : ℕ) → pages ≡ o.pages p.space → pages ≤ p.page → outside o p ≡ Some (cause.NoSuchPage pages)
 outside_due o p pages same past =
     ap (λ (b : Bool). cond b (Some (cause.NoSuchPage (o.pages p.space))) None) (is_le (o.pages p.space) p.page (omega (arith, same, past))) ∙ ap (λ n. Some (cause.NoSuchPage n)) (sym same)
   where
     is_le : (m n : ℕ) → m ≤ n → nat_le m n ≡ true
     is_le m n le = grind (arith, nat_tests)
 
-in_space : {D : Type 0} (sense : Senses D) (o : Opening) (start : Start) (desk : State D) (log : Seen) (w : Working) (past : List Event) (pending : List Kind) (p : PageId)
+pub in_space : {D : Type 0} (sense : Senses D) (o : Opening) (start : Start) (desk : State D) (log : Seen) (w : Working) (past : List Event) (pending : List Kind) (p : PageId)
     → SoFar sense o start desk log w past pending → p.page < pages_in (sense.spaces desk.disk) p.space → p.page < o.pages p.space
 in_space sense o start desk log w past pending p so inside = let P : ℕ → Type 0 = λ n. p.page < n in subst P (sym (so.pages_are p.space)) inside
 
 -- the caller has as many fixes as it may, or fewer
-not_full : (past : List Event) (c : ℕ) (fixed : List Held) → held_by past c ≡ fixed → length fixed < 64 → hold_full past c ≡ None
+pub not_full : (past : List Event) (c : ℕ) (fixed : List Held) → held_by past c ≡ fixed → length fixed < 64 → hold_full past c ≡ None
 not_full past c fixed are few = ap (λ (b : Bool). cond b (Some (cause.HoldFull 64)) None) (ap (λ held. nat_eq (length {A = Held} held) 64) are ∙ below (length fixed) few)
   where
     below : (n : ℕ) → n < 64 → nat_eq n 64 ≡ false
     below n less = grind (arith, nat_tests)
 
-is_full : (past : List Event) (c : ℕ) (fixed : List Held) → held_by past c ≡ fixed → length fixed ≡ 64 → hold_full past c ≡ Some (cause.HoldFull 64)
+pub is_full : (past : List Event) (c : ℕ) (fixed : List Held) → held_by past c ≡ fixed → length fixed ≡ 64 → hold_full past c ≡ Some (cause.HoldFull 64)
 is_full past c fixed are full = ap (λ (b : Bool). cond b (Some (cause.HoldFull 64)) None) (ap (λ held. nat_eq (length {A = Held} held) 64) are ∙ eq-eqb (length fixed) 64 full)
 
 -- nothing stands against a fix
@@ -105,7 +107,7 @@ value_at o past h p P are is = on_some o.base _ _ (λ base e at. let V : List En
 so_far_fix : {D : Type 0} (sense : Senses D) (o : Opening) (start : Start) (desk : State D) (log : Seen) (w : Working) (past : List Event) (pending : List Kind) (p : PageId) (now : ℕ) (g : Granted)
     → SoFar sense o start desk log w past pending → IsTogether past w.pass → MayPrecede desk.history pending (kind.Fix p g.frame g.clock now) → home desk.history p ≡ Some g.frame → g.clock ≡ change desk.history g.frame
     → p.page < o.pages p.space → length w.fixed < 64
-    → SoFar sense o start (grown desk w (kind.Fix p g.frame g.clock now)) log (answered w (kind.Fix p g.frame g.clock now)) (event.Entry (next_entry desk (me w) (kind.Fix p g.frame g.clock now)) ∷ past) []
+    → SoFar sense o start (grown desk w (kind.Fix p g.frame g.clock now)) log (with_answer w (kind.Fix p g.frame g.clock now)) (event.Entry (next_entry desk (me w) (kind.Fix p g.frame g.clock now)) ∷ past) []
 so_far_fix sense o start desk log w past pending p now g so together before resident clock inside few =
     let k = kind.Fix p g.frame g.clock now in
     so_far_answer sense o start desk log w past pending k so (record {
@@ -122,7 +124,7 @@ so_far_fix sense o start desk log w past pending p now g so together before resi
 
 pub does_hit : {D : Type 0} {rows more : List Row} (sense : Senses D) (o : Opening) (start : Start) (old new : State D) (was is : Seen) (w : Working) (past : List Event) (p : PageId) (now : ℕ) (g : Granted)
     → SoFar sense o start old was w past [] → Moves sense old new was is → IsHit old new rows more (me w) p now g → p.page < pages_in (sense.spaces old.disk) p.space → length w.fixed < 64
-    → Does sense o start new is (answered w (kind.Fix p g.frame g.clock now)) past (command.Fix p now)
+    → Does sense o start new is (with_answer w (kind.Fix p g.frame g.clock now)) past (command.Fix p now)
 does_hit sense o start old new was is w past p now g so moves hit inside few =
     let k = kind.Fix p g.frame g.clock now in
     let e : Entry = next_entry old (me w) k in
@@ -131,13 +133,13 @@ does_hit sense o start old new was is w past p now g so moves hit inside few =
       answer = event.Entry e;
       before = [];
       quiet = refl;
-      so_far = so_far_after sense o start old new is (answered w k) (event.Entry e ∷ past) [] (e ∷ old.history) moves.left hit.entry.history
+      so_far = so_far_after sense o start old new is (with_answer w k) (event.Entry e ∷ past) [] (e ∷ old.history) moves.left hit.entry.history
           (so_far_fix sense o start (placed old new old.history) is w past [] p now g there (inl so.calls) (inl refl) hit.resident hit.clock (in_space sense o start old was w past [] p so inside) few);
-      answers = inl (g.frame, g.clock, refl);
+      answers = λ h goes. inl (g.frame, g.clock, refl);
     }
 
 -- the entry of a call, whose pool is that of the call's start
-same_pool : (c d : Config) (h : List Entry) (new : List Entry) (w : Working) (k : Kind) → d ≡ c → new ≡ entry_behind d.first h (me w) k ∷ h → new ≡ entry_behind c.first h (me w) k ∷ h
+pub same_pool : (c d : Config) (h : List Entry) (new : List Entry) (w : Working) (k : Kind) → d ≡ c → new ≡ entry_behind d.first h (me w) k ∷ h → new ≡ entry_behind c.first h (me w) k ∷ h
 same_pool c d h new w k same is = let E : Config → Type 0 = λ config. new ≡ entry_behind config.first h (me w) k ∷ h in subst E same is
 
 -- a page with a value was read into the next frame
@@ -166,7 +168,7 @@ so_far_load sense o start old new log w past p f h r absent next sound =
 pub does_miss : {D : Type 0} {more : List Row} (sense : Senses D) (o : Opening) (start : Start) (old new : State D) (frames : Plain) (was is : Seen) (w : Working) (past : List Event) (p : PageId) (now : ℕ) (g : Granted)
     → SoFar sense o start old was w past [] → Moves sense old new was is → IsReady sense old frames w.fixed → (miss : IsMiss sense.told old new frames.rows more (me w) p now g) → p.page < pages_in (sense.spaces old.disk) p.space
     → length w.fixed < 64 → IfSome o.base (λ base. IsSome (value (page_bytes o.config.page) base old.history p))
-    → Does sense o start new is (answered w (kind.Fix p g.frame g.clock now)) past (command.Fix p now)
+    → Does sense o start new is (with_answer w (kind.Fix p g.frame g.clock now)) past (command.Fix p now)
 does_miss sense o start old new frames was is w past p now g so moves ready miss inside few sound =
     let had = miss.had in
     let mid = miss.mid in
@@ -190,21 +192,21 @@ does_miss sense o start old new frames was is w past p now g so moves ready miss
       answer = event.Entry e;
       before = event.Entry x ∷ r.more;
       quiet = r.quiet;
-      so_far = so_far_after sense o start old new is (answered w k) (event.Entry e ∷ event.Entry x ∷ r.more ++ past) [] (e ∷ mid.history) moves.left fixed
+      so_far = so_far_after sense o start old new is (with_answer w k) (event.Entry e ∷ event.Entry x ∷ r.more ++ past) [] (e ∷ mid.history) moves.left fixed
           (so_far_fix sense o start (placed old new mid.history) is w (event.Entry x ∷ r.more ++ past) (load ∷ r.made) p now g behind (inr refl) (inr (r.made, refl, r.had)) miss.hit.resident miss.hit.clock here few);
-      answers = inl (g.frame, g.clock, refl);
+      answers = λ h goes. inl (g.frame, g.clock, refl);
     }
 
--- A fix that was refused, by an entry behind those by which a frame may have been had.
-does_refused : {D : Type 0} (sense : Senses D) (o : Opening) (start : Start) (old new : State D) (log : Seen) (w : Working) (past : List Event) (p : PageId) (now : ℕ) (why : Cause) (h : List Entry)
-    → (r : Readied sense o start old new log w past p h) → Left sense old new → new.history ≡ entry_behind old.config.first h (me w) (kind.Refused (call.Fix p now) why) ∷ h
-    → IsLoggedKind log (kind.Refused (call.Fix p now) why) → IsKindWithin start (sense.faults new.disk) log.faults (kind.Refused (call.Fix p now) why)
+-- A call that was refused, by an entry behind those by which a frame may have been had.
+pub refused_behind : {D : Type 0} (sense : Senses D) (o : Opening) (start : Start) (old new : State D) (log : Seen) (w : Working) (past : List Event) (p : PageId) (c : Call) (asked : Command) (why : Cause) (h : List Entry)
+    → (r : Readied sense o start old new log w past p h) → Left sense old new → new.history ≡ entry_behind old.config.first h (me w) (kind.Refused c why) ∷ h
+    → IsLoggedKind log (kind.Refused c why) → IsKindWithin start (sense.faults new.disk) log.faults (kind.Refused c why)
     → disk_faults_after why (disk_faults h) ≤ sense.faults new.disk → log_faults_after why (log_faults h) ≤ log.faults
-    → MayPrecedeUnfixed h r.made p why → IsRefused o (r.more ++ past) w.pass (call.Fix p now) why → AreExactWords h w.fixed (cause_words why) → IsTrue (is_own (call.Fix p now) why) → is_noted why ≡ false
-    → (due o (r.more ++ past) w.pass (call.Fix p now) ≡ None → (home (entries (r.more ++ past)) p ≡ None) × OnValue o (r.more ++ past) p (λ v. IsSome v → IsTrue (is_excuse why))) → AreRising (cause_words why)
-    → Does sense o start new log (answered w (kind.Refused (call.Fix p now) why)) past (command.Fix p now)
-does_refused sense o start old new log w past p now why h r left came logged within last last_log precedes refused exact own entered excused rising =
-    let k = kind.Refused (call.Fix p now) why in
+    → MayPrecedeRefusal h r.made c why → IsRefused o (r.more ++ past) w.pass c why → AreExactWords h w.fixed (cause_words why) → IsFairRefusal false o (r.more ++ past) w.pass c why
+    → ((l : List Entry) → Answers l w.pass asked past (event.Entry (entry_behind old.config.first h (me w) (kind.Refused c why))))
+    → Does sense o start new log (with_answer w (kind.Refused c why)) past asked
+refused_behind sense o start old new log w past p c asked why h r left came logged within last last_log precedes refused exact fair answers =
+    let k = kind.Refused c why in
     let at = placed old new h in
     let e : Entry = entry_behind old.config.first h (me w) k in
     let past' : List Event = r.more ++ past in
@@ -212,36 +214,60 @@ does_refused sense o start old new log w past p now why h r left came logged wit
       answer = event.Entry e;
       before = r.more;
       quiet = r.quiet;
-      so_far = so_far_after sense o start old new log (answered w k) (event.Entry e ∷ past') [] (e ∷ h) left came
+      so_far = so_far_after sense o start old new log (with_answer w k) (event.Entry e ∷ past') [] (e ∷ h) left came
           (so_far_answer sense o start at log w past' r.made k r.so_far (record {
             logged = logged;
             within = within;
             last = last;
             last_log = last_log;
             lawful = lawful_entry sense o start at log w past' r.made k r.so_far r.together precedes tt tt tt refused tt;
-            promised = record { own = own; filed = entered; excused = excused; rising = rising };
+            promised = fair;
             exact = exact;
           }) refl (falling_up w.next (w.next + 1) w.fixed (omega arith) r.so_far.falling));
-      answers = inr (why, refl);
+      answers = λ l goes. answers l;
     }
 
 -- a refusal that comes alone
+pub refused_at_once : {D : Type 0} (sense : Senses D) (o : Opening) (start : Start) (old new : State D) (was is : Seen) (w : Working) (past : List Event) (p : PageId) (c : Call) (asked : Command) (why : Cause)
+    → (so : SoFar sense o start old was w past []) → Moves sense old new was is → IsAppended old new (me w) (kind.Refused c why)
+    → IsLoggedKind is (kind.Refused c why) → IsKindWithin start (sense.faults new.disk) is.faults (kind.Refused c why)
+    → disk_faults_after why (disk_faults old.history) ≤ sense.faults new.disk → log_faults_after why (log_faults old.history) ≤ is.faults
+    → MayPrecedeRefusal old.history [] c why → IsRefused o past w.pass c why → AreExactWords old.history w.fixed (cause_words why) → IsFairRefusal false o past w.pass c why
+    → ((l : List Entry) → Answers l w.pass asked past (event.Entry (next_entry old (me w) (kind.Refused c why))))
+    → Does sense o start new is (with_answer w (kind.Refused c why)) past asked
+refused_at_once sense o start old new was is w past p c asked why so moves entry logged within last last_log precedes refused exact fair answers =
+    let e : Entry = next_entry old (me w) (kind.Refused c why) in
+    let there = so_far_placed sense o start old new was is w past so moves (logged_rest is e old.history new.history entry.history moves.logged) in
+    refused_behind sense o start old new is w past p c asked why old.history (readied_none sense o start old new is w past p there) moves.left entry.history
+    logged within last last_log precedes refused exact fair answers
+
+-- a fix that was refused
+does_refused : {D : Type 0} (sense : Senses D) (o : Opening) (start : Start) (old new : State D) (log : Seen) (w : Working) (past : List Event) (p : PageId) (now : ℕ) (why : Cause) (h : List Entry)
+    → (r : Readied sense o start old new log w past p h) → Left sense old new → new.history ≡ entry_behind old.config.first h (me w) (kind.Refused (call.Fix p now) why) ∷ h
+    → IsLoggedKind log (kind.Refused (call.Fix p now) why) → IsKindWithin start (sense.faults new.disk) log.faults (kind.Refused (call.Fix p now) why)
+    → disk_faults_after why (disk_faults h) ≤ sense.faults new.disk → log_faults_after why (log_faults h) ≤ log.faults
+    → MayPrecedeUnfixed h r.made p why → IsRefused o (r.more ++ past) w.pass (call.Fix p now) why → AreExactWords h w.fixed (cause_words why) → IsTrue (is_own (call.Fix p now) why) → is_noted why ≡ false
+    → (due o (r.more ++ past) w.pass (call.Fix p now) ≡ None → (home (entries (r.more ++ past)) p ≡ None) × OnValue o (r.more ++ past) p (λ v. IsSome v → IsTrue (is_excuse why))) → AreRising (cause_words why)
+    → Does sense o start new log (with_answer w (kind.Refused (call.Fix p now) why)) past (command.Fix p now)
+does_refused sense o start old new log w past p now why h r left came logged within last last_log precedes refused exact own entered excused rising =
+    refused_behind sense o start old new log w past p (call.Fix p now) (command.Fix p now) why h r left came logged within last last_log precedes refused exact
+    (record { own = own; filed = entered; excused = excused; rising = rising; begun = tt }) (λ l. inr (why, refl))
+
+-- and one whose refusal comes alone
 refused_alone : {D : Type 0} (sense : Senses D) (o : Opening) (start : Start) (old new : State D) (was is : Seen) (w : Working) (past : List Event) (p : PageId) (now : ℕ) (why : Cause)
     → (so : SoFar sense o start old was w past []) → Moves sense old new was is → IsAppended old new (me w) (kind.Refused (call.Fix p now) why)
     → IsLoggedKind is (kind.Refused (call.Fix p now) why) → IsKindWithin start (sense.faults new.disk) is.faults (kind.Refused (call.Fix p now) why)
     → disk_faults_after why (disk_faults old.history) ≤ sense.faults new.disk → log_faults_after why (log_faults old.history) ≤ is.faults
     → MayPrecedeUnfixed old.history [] p why → IsRefused o past w.pass (call.Fix p now) why → AreExactWords old.history w.fixed (cause_words why) → IsTrue (is_own (call.Fix p now) why) → is_noted why ≡ false
     → (due o past w.pass (call.Fix p now) ≡ None → (home (entries past) p ≡ None) × OnValue o past p (λ v. IsSome v → IsTrue (is_excuse why))) → AreRising (cause_words why)
-    → Does sense o start new is (answered w (kind.Refused (call.Fix p now) why)) past (command.Fix p now)
+    → Does sense o start new is (with_answer w (kind.Refused (call.Fix p now) why)) past (command.Fix p now)
 refused_alone sense o start old new was is w past p now why so moves entry logged within last last_log precedes refused exact own entered excused rising =
-    let e : Entry = next_entry old (me w) (kind.Refused (call.Fix p now) why) in
-    let there = so_far_placed sense o start old new was is w past so moves (logged_rest is e old.history new.history entry.history moves.logged) in
-    does_refused sense o start old new is w past p now why old.history (readied_none sense o start old new is w past p there) moves.left entry.history
-    logged within last last_log precedes refused exact own entered excused rising
+    refused_at_once sense o start old new was is w past p (call.Fix p now) (command.Fix p now) why so moves entry logged within last last_log precedes refused exact
+    (record { own = own; filed = entered; excused = excused; rising = rising; begun = tt }) (λ l. inr (why, refl))
 
 pub does_outside : {D : Type 0} (sense : Senses D) (o : Opening) (start : Start) (old new : State D) (was is : Seen) (w : Working) (past : List Event) (p : PageId) (now pages : ℕ)
-    → SoFar sense o start old was w past [] → Moves sense old new was is → IsOutside sense.spaces old new (me w) p now pages
-    → Does sense o start new is (answered w (kind.Refused (call.Fix p now) (cause.NoSuchPage pages))) past (command.Fix p now)
+    → SoFar sense o start old was w past [] → Moves sense old new was is → IsOutside sense.spaces old new (me w) p (call.Fix p now) pages
+    → Does sense o start new is (with_answer w (kind.Refused (call.Fix p now) (cause.NoSuchPage pages))) past (command.Fix p now)
 does_outside sense o start old new was is w past p now pages so moves out =
     let is_due : due o past w.pass (call.Fix p now) ≡ Some (cause.NoSuchPage pages) =
     ap (λ x. option_or x (hold_full past w.pass)) (outside_due o p pages (out.count ∙ sym (so.pages_are p.space)) out.past_end) in
@@ -249,8 +275,8 @@ does_outside sense o start old new was is w past p now pages so moves out =
     refl is_due tt refl refl (λ none. let bad : None ≡ Some (cause.NoSuchPage pages) = sym none ∙ is_due in absurd (cc)) tt
 
 pub does_full : {D : Type 0} (sense : Senses D) (o : Opening) (start : Start) (old new : State D) (was is : Seen) (w : Working) (past : List Event) (p : PageId) (now held full : ℕ)
-    → SoFar sense o start old was w past [] → Moves sense old new was is → p.page < pages_in (sense.spaces old.disk) p.space → held ≡ length w.fixed → length w.fixed ≤ 64 → IsHeldFull old new (me w) p now held full
-    → Does sense o start new is (answered w (kind.Refused (call.Fix p now) (cause.HoldFull full))) past (command.Fix p now)
+    → SoFar sense o start old was w past [] → Moves sense old new was is → p.page < pages_in (sense.spaces old.disk) p.space → held ≡ length w.fixed → length w.fixed ≤ 64 → IsHeldFull old new (me w) (call.Fix p now) held full
+    → Does sense o start new is (with_answer w (kind.Refused (call.Fix p now) (cause.HoldFull full))) past (command.Fix p now)
 does_full sense o start old new was is w past p now held full so moves inside count few out =
     let all : length w.fixed ≡ 64 = omega (arith, count, few, out.most) in
     let most : full ≡ 64 = omega (arith, out.full_is, count, all) in
@@ -259,14 +285,14 @@ does_full sense o start old new was is w past p now held full so moves inside co
     refused_alone sense o start old new was is w past p now (cause.HoldFull full) so moves out.entry tt tt (omega (arith, so.last_fault, moves.left.later)) (omega (arith, so.last_log_fault, moves.later))
     refl is_due tt refl refl (λ none. let bad : None ≡ Some (cause.HoldFull full) = sym none ∙ is_due in absurd (cc)) tt
 
-all_fixed_here : (c d : Config) (h l : List Entry) (p : PageId) (seen : List (ℕ × Word)) → d ≡ c → l ≡ h → AreAllFixed c h p seen → AreAllFixed d l p seen
+pub all_fixed_here : (c d : Config) (h l : List Entry) (p : PageId) (seen : List (ℕ × Word)) → d ≡ c → l ≡ h → AreAllFixed c h p seen → AreAllFixed d l p seen
 all_fixed_here c d h l p seen config at all =
     let A : Config → List Entry → Type 0 = λ config l. AreAllFixed config l p seen in subst (λ config. A config l) (sym config) (subst (λ l. A c l) (sym at) all)
 
 pub does_unseated : {D : Type 0} (sense : Senses D) (o : Opening) (start : Start) (old new : State D) (frames : Plain) (was is : Seen) (w : Working) (past : List Event) (p : PageId) (now : ℕ) (seen : List (ℕ × Word))
     → SoFar sense o start old was w past [] → Moves sense old new was is → IsReady sense old frames w.fixed → p.page < pages_in (sense.spaces old.disk) p.space → length w.fixed < 64
-    → IsUnseated old new frames.rows (me w) p now seen
-    → Does sense o start new is (answered w (kind.Refused (call.Fix p now) (cause.AllFixed seen))) past (command.Fix p now)
+    → IsUnseated old new frames.rows (me w) p (call.Fix p now) seen
+    → Does sense o start new is (with_answer w (kind.Refused (call.Fix p now) (cause.AllFixed seen))) past (command.Fix p now)
 does_unseated sense o start old new frames was is w past p now seen so moves ready inside few out =
     let here = in_space sense o start old was w past [] p so inside in
     refused_alone sense o start old new was is w past p now (cause.AllFixed seen) so moves out.entry tt tt (omega (arith, so.last_fault, moves.left.later)) (omega (arith, so.last_log_fault, moves.later))
@@ -276,8 +302,8 @@ does_unseated sense o start old new frames was is w past p now seen so moves rea
 
 pub does_uncovered : {D : Type 0} (sense : Senses D) (o : Opening) (start : Start) (old new : State D) (was is : Seen) (w : Working) (past : List Event) (p : PageId) (now before after : ℕ)
     → SoFar sense o start old was w past [] → Moves sense old new was is → p.page < pages_in (sense.spaces old.disk) p.space → length w.fixed < 64
-    → IsUnwritten old new (me w) p now was.faults is.faults before after (cause.RedoFault before after)
-    → Does sense o start new is (answered w (kind.Refused (call.Fix p now) (cause.RedoFault before after))) past (command.Fix p now)
+    → IsUnwritten old new (me w) p (call.Fix p now) was.faults is.faults before after (cause.RedoFault before after)
+    → Does sense o start new is (with_answer w (kind.Refused (call.Fix p now) (cause.RedoFault before after))) past (command.Fix p now)
 does_uncovered sense o start old new was is w past p now before after so moves inside few out =
     let here = in_space sense o start old was w past [] p so inside in
     let L : List Entry → Type 0 = λ h. log_faults h ≤ before in
@@ -288,8 +314,8 @@ does_uncovered sense o start old new was is w past p now before after so moves i
 
 pub does_unwritten : {D : Type 0} (sense : Senses D) (o : Opening) (start : Start) (old new : State D) (was is : Seen) (w : Working) (past : List Event) (p : PageId) (now before after : ℕ)
     → SoFar sense o start old was w past [] → Moves sense old new was is → p.page < pages_in (sense.spaces old.disk) p.space → length w.fixed < 64
-    → IsUnwritten old new (me w) p now (sense.faults old.disk) (sense.faults new.disk) before after (cause.DiskFault before after)
-    → Does sense o start new is (answered w (kind.Refused (call.Fix p now) (cause.DiskFault before after))) past (command.Fix p now)
+    → IsUnwritten old new (me w) p (call.Fix p now) (sense.faults old.disk) (sense.faults new.disk) before after (cause.DiskFault before after)
+    → Does sense o start new is (with_answer w (kind.Refused (call.Fix p now) (cause.DiskFault before after))) past (command.Fix p now)
 does_unwritten sense o start old new was is w past p now before after so moves inside few out =
     let here = in_space sense o start old was w past [] p so inside in
     let L : List Entry → Type 0 = λ h. disk_faults h ≤ before in
@@ -302,7 +328,7 @@ does_unwritten sense o start old new was is w past p now before after so moves i
 pub does_faulted : {D : Type 0} {cleared : List Row} (sense : Senses D) (o : Opening) (start : Start) (old had new : State D) (frames : Plain) (was is : Seen) (w : Working) (past : List Event) (p : PageId) (now f before after : ℕ)
     → SoFar sense o start old was w past [] → Moves sense old new was is → IsReady sense old frames w.fixed → p.page < pages_in (sense.spaces old.disk) p.space → length w.fixed < 64
     → home old.history p ≡ None → IsHad old had frames.rows cleared (me w) f → sense.faults old.disk ≤ sense.faults had.disk → IsFaulted sense.faults had new (me w) p now before after
-    → Does sense o start new is (answered w (kind.Refused (call.Fix p now) (cause.DiskFault before after))) past (command.Fix p now)
+    → Does sense o start new is (with_answer w (kind.Refused (call.Fix p now) (cause.DiskFault before after))) past (command.Fix p now)
 does_faulted sense o start old had new frames was is w past p now f before after so moves ready inside few absent frame_is low out =
     let why = cause.DiskFault before after in
     let k = kind.Refused (call.Fix p now) why in
@@ -328,7 +354,7 @@ other_number p bytes (bad.Torn head tail) is = is.5
 pub does_unsound : {D : Type 0} {cleared : List Row} (sense : Senses D) (o : Opening) (start : Start) (old had new : State D) (frames : Plain) (was is : Seen) (w : Working) (past : List Event) (p : PageId) (now f : ℕ) (found : BadPage)
     → SoFar sense o start old was w past [] → Moves sense old new was is → IsReady sense old frames w.fixed → p.page < pages_in (sense.spaces old.disk) p.space → length w.fixed < 64
     → home old.history p ≡ None → IsHad old had frames.rows cleared (me w) f → IsUnsound sense.told had new (me w) p now found → IfSome o.base (λ base. value (page_bytes o.config.page) base old.history p ≡ None)
-    → Does sense o start new is (answered w (kind.Refused (call.Fix p now) (cause.BadPage found))) past (command.Fix p now)
+    → Does sense o start new is (with_answer w (kind.Refused (call.Fix p now) (cause.BadPage found))) past (command.Fix p now)
 does_unsound sense o start old had new frames was is w past p now f found so moves ready inside few absent frame_is out none_there =
     let why = cause.BadPage found in
     let k = kind.Refused (call.Fix p now) why in
@@ -348,15 +374,15 @@ does_unsound sense o start old had new frames was is w past p now f found so mov
     )) tt
 
 -- a receipt is the answer of the call
-does_receipt : {D : Type 0} (sense : Senses D) (o : Opening) (start : Start) (desk : State D) (log : Seen) (w : Working) (past : List Event) (c : Rattle.script_text.specs.declared.script.Command.Command) (n : Note)
+does_receipt : {D : Type 0} (sense : Senses D) (o : Opening) (start : Start) (desk : State D) (log : Seen) (w : Working) (past : List Event) (c : Command) (n : Note)
     → SoFar sense o start desk log w past [] → IsLawful o past (event.Receipt (next_receipt desk w n)) → IsPromised o past (event.Receipt (next_receipt desk w n))
-    → Rattle.script_run.specs.Todo.Answers w.pass c past (event.Receipt (next_receipt desk w n)) → Does sense o start desk log (noted desk w n) past c
+    → ((h : List Entry) → Answers h w.pass c past (event.Receipt (next_receipt desk w n))) → Does sense o start desk log (with_note desk w n) past c
 does_receipt sense o start desk log w past c n so lawful promised answers = record {
   answer = event.Receipt (next_receipt desk w n);
   before = [];
   quiet = refl;
   so_far = so_far_receipt sense o start desk log w past n so lawful promised;
-  answers = answers;
+  answers = λ h goes. answers h;
 }
 
 is_unheld : (past : List Event) (c : ℕ) (p : PageId) → newest_of (held_by past c) p ≡ None → not_held past c p ≡ Some cause.Unheld
@@ -368,26 +394,26 @@ is_held past c p h some = ap (λ (x : Option Held). cond (is_none x) (Some cause
 -- the receipt of a read of a page that is not held
 pub does_unheld_read : {D : Type 0} (sense : Senses D) (o : Opening) (start : Start) (desk : State D) (log : Seen) (w : Working) (past : List Event) (p : PageId) (at len : ℕ)
     → SoFar sense o start desk log w past [] → newest_of w.fixed p ≡ None
-    → Does sense o start desk log (noted desk w (note.Refused (call.Read p at len) cause.Unheld)) past (command.Read p at len)
+    → Does sense o start desk log (with_note desk w (note.Refused (call.Read p at len) cause.Unheld)) past (command.Read p at len)
 does_unheld_read sense o start desk log w past p at len so none =
     let n = note.Refused (call.Read p at len) cause.Unheld in
     let e : Event = event.Receipt (next_receipt desk w n) in
     let M : Option Held → Type 0 = λ newest. MatchOption newest (IsReceiptOf n e) (λ held. (bytes : List ℕ) × (clock : ℕ) × (length bytes ≡ len) × IsReceiptOf (note.Copied p at bytes clock) e) in
     let here : newest_of (held_by past w.pass) p ≡ None = ap (λ held. newest_of held p) so.held ∙ none in
-    does_receipt sense o start desk log w past (command.Read p at len) n so (lawful_receipt sense o start desk log w past n so tt (is_unheld past w.pass p here)) (record { own = refl; filed = refl; excused = tt; rising = tt }) (subst M (sym here) refl)
+    does_receipt sense o start desk log w past (command.Read p at len) n so (lawful_receipt sense o start desk log w past n so tt (is_unheld past w.pass p here)) (record { own = refl; filed = refl; excused = tt; rising = tt; begun = tt }) (λ h. subst M (sym here) refl)
 
 -- and of an unfix of one
 pub does_unheld_unfix : {D : Type 0} (sense : Senses D) (o : Opening) (start : Start) (desk : State D) (log : Seen) (w : Working) (past : List Event) (p : PageId)
-    → SoFar sense o start desk log w past [] → newest_of w.fixed p ≡ None → Does sense o start desk log (noted desk w (note.Refused (call.Unfix p) cause.Unheld)) past (command.Unfix p)
+    → SoFar sense o start desk log w past [] → newest_of w.fixed p ≡ None → Does sense o start desk log (with_note desk w (note.Refused (call.Unfix p) cause.Unheld)) past (command.Unfix p)
 does_unheld_unfix sense o start desk log w past p so none =
     let n = note.Refused (call.Unfix p) cause.Unheld in
     let e : Event = event.Receipt (next_receipt desk w n) in
     let M : Option Held → Type 0 = λ newest. MatchOption newest (IsReceiptOf n e) (λ held. IsReceiptOf (note.Unfixed p held.frame held.number) e) in
     let here : newest_of (held_by past w.pass) p ≡ None = ap (λ held. newest_of held p) so.held ∙ none in
-    does_receipt sense o start desk log w past (command.Unfix p) n so (lawful_receipt sense o start desk log w past n so tt (is_unheld past w.pass p here)) (record { own = refl; filed = refl; excused = tt; rising = tt }) (subst M (sym here) refl)
+    does_receipt sense o start desk log w past (command.Unfix p) n so (lawful_receipt sense o start desk log w past n so tt (is_unheld past w.pass p here)) (record { own = refl; filed = refl; excused = tt; rising = tt; begun = tt }) (λ h. subst M (sym here) refl)
 
 pub does_unfix : {D : Type 0} (sense : Senses D) (o : Opening) (start : Start) (desk : State D) (log : Seen) (w : Working) (past : List Event) (p : PageId) (h : Held)
-    → SoFar sense o start desk log w past [] → newest_of w.fixed p ≡ Some h → Does sense o start desk log (noted desk w (note.Unfixed p h.frame h.number)) past (command.Unfix p)
+    → SoFar sense o start desk log w past [] → newest_of w.fixed p ≡ Some h → Does sense o start desk log (with_note desk w (note.Unfixed p h.frame h.number)) past (command.Unfix p)
 does_unfix sense o start desk log w past p h so newest =
     let n = note.Unfixed p h.frame h.number in
     let e : Event = event.Receipt (next_receipt desk w n) in
@@ -396,10 +422,10 @@ does_unfix sense o start desk log w past p h so newest =
     let make : PageId → Held = λ page. record { page = page; frame = h.frame; number = h.number } in
     let found = newest_held (held_by past w.pass) p h here in
     let C : Held → Type 0 = λ one. Contains (held_by past w.pass) one in
-    does_receipt sense o start desk log w past (command.Unfix p) n so (lawful_receipt sense o start desk log w past n so (subst C (ap make found.1) found.0) (is_held past w.pass p h here)) tt (subst M (sym here) refl)
+    does_receipt sense o start desk log w past (command.Unfix p) n so (lawful_receipt sense o start desk log w past n so (subst C (ap make found.1) found.0) (is_held past w.pass p h here)) tt (λ h. subst M (sym here) refl)
 
 -- what was copied of the image is of the page's value
-value_read : (o : Opened) (seen : FramesSeen) (v : Option Content) (image : Option (Option Content)) (at : ℕ) (bytes : List ℕ) → IsValueIn o seen image v → IsCopy image at (length bytes) bytes
+value_read : (o : Opened) (seen : FramesSeen) (v : Option Content) (image : Option (Option Content)) (at : ℕ) (bytes : List ℕ) → IsValueIn o seen image v → IsRangeOf image at (length bytes) bytes
     → IsSomeAnd v (λ c. bytes ≡ slice_range c.bytes at (at + length bytes))
 value_read o seen v None at bytes is read = absurd is
 value_read o seen v (Some None) at bytes is read = absurd read
@@ -409,8 +435,8 @@ value_read o seen v (Some (Some c)) at bytes is read =
 
 does_copy : {D : Type 0} (sense : Senses D) (o : Opening) (start : Start) (desk : State D) (frames : Plain) (log : Seen) (w : Working) (past : List Event) (p : PageId) (at len : ℕ) (held : Held) (bytes : List ℕ) (clock : ℕ)
     → SoFar sense o start desk log w past [] → StandsBehind sense o start desk frames → newest_of w.fixed p ≡ Some held → home desk.history p ≡ Some held.frame → length bytes ≡ len
-    → IsCopy (row_in frames.rows held.frame).image at (length bytes) bytes → clock ≡ change desk.history held.frame
-    → Does sense o start desk log (noted desk w (note.Copied p at bytes clock)) past (command.Read p at len)
+    → IsRangeOf (row_in frames.rows held.frame).image at (length bytes) bytes → clock ≡ change desk.history held.frame
+    → Does sense o start desk log (with_note desk w (note.Copied p at bytes clock)) past (command.Read p at len)
 does_copy sense o start desk frames log w past p at len held bytes clock so stands newest resident long read unchanged =
     let n = note.Copied p at bytes clock in
     let e : Event = event.Receipt (next_receipt desk w n) in
@@ -428,26 +454,26 @@ does_copy sense o start desk frames log w past p at len held bytes clock so stan
           let V : List Entry → Type 0 = λ h. IsSomeAnd (value size base h p) (λ c. bytes ≡ slice_range c.bytes at (at + length bytes)) in
           subst V (sym so.entries_are) (value_read (opened_of o start base) (seen_of frames) (value size base desk.history p) (row_in frames.rows held.frame).image at bytes (behind.values p held.frame resident) read)) stands;
       unchanged = subst C (sym so.entries_are) (subst H (sym resident) unchanged);
-    }) (is_held past w.pass p held here)) tt (subst M (sym here) (bytes, clock, long, refl))
+    }) (is_held past w.pass p held here)) tt (λ h. subst M (sym here) (bytes, clock, long, refl))
 
 pub does_copied : {D : Type 0} (sense : Senses D) (o : Opening) (start : Start) (desk : State D) (frames : Plain) (log : Seen) (w : Working) (past : List Event) (p : PageId) (at len : ℕ) (held : Held) (bytes : List ℕ) (clock : ℕ)
     → SoFar sense o start desk log w past [] → StandsBehind sense o start desk frames → newest_of w.fixed p ≡ Some held → home desk.history p ≡ Some held.frame → length bytes ≡ len
-    → IsCopy (row_in frames.rows held.frame).image at len bytes → clock ≡ change desk.history held.frame
-    → Does sense o start desk log (noted desk w (note.Copied p at bytes clock)) past (command.Read p at len)
+    → IsRangeOf (row_in frames.rows held.frame).image at len bytes → clock ≡ change desk.history held.frame
+    → Does sense o start desk log (with_note desk w (note.Copied p at bytes clock)) past (command.Read p at len)
 does_copied sense o start desk frames log w past p at len held bytes clock so stands newest resident long read unchanged =
-    let R : ℕ → Type 0 = λ n. IsCopy (row_in frames.rows held.frame).image at n bytes in
+    let R : ℕ → Type 0 = λ n. IsRangeOf (row_in frames.rows held.frame).image at n bytes in
     does_copy sense o start desk frames log w past p at len held bytes clock so stands newest resident long (subst R (sym long) read) unchanged
 
 -- the receipt of a put on a page that is not held
 pub does_unheld_put : {D : Type 0} (sense : Senses D) (o : Opening) (start : Start) (desk : State D) (log : Seen) (w : Working) (past : List Event) (p : PageId) (at : ℕ) (bytes : List ℕ)
     → SoFar sense o start desk log w past [] → newest_of w.fixed p ≡ None
-    → Does sense o start desk log (noted desk w (note.Refused (call.Put p at bytes) cause.Unheld)) past (command.Put p at bytes)
+    → Does sense o start desk log (with_note desk w (note.Refused (call.Put p at bytes) cause.Unheld)) past (command.Put p at bytes)
 does_unheld_put sense o start desk log w past p at bytes so none =
     let n = note.Refused (call.Put p at bytes) cause.Unheld in
     let e : Event = event.Receipt (next_receipt desk w n) in
     let M : Option Held → Type 0 = λ newest. MatchOption newest (IsReceiptOf n e) (λ held. ((from : ℕ) × (end : ℕ) × IsEntryOf (kind.Put p at bytes from end) e) ⊎ IsRefusal (call.Put p at bytes) e) in
     let here : newest_of (held_by past w.pass) p ≡ None = ap (λ held. newest_of held p) so.held ∙ none in
-    does_receipt sense o start desk log w past (command.Put p at bytes) n so (lawful_receipt sense o start desk log w past n so tt (is_unheld past w.pass p here)) (record { own = refl; filed = refl; excused = tt; rising = tt }) (subst M (sym here) refl)
+    does_receipt sense o start desk log w past (command.Put p at bytes) n so (lawful_receipt sense o start desk log w past n so tt (is_unheld past w.pass p here)) (record { own = refl; filed = refl; excused = tt; rising = tt; begun = tt }) (λ h. subst M (sym here) refl)
 
 -- an entry that answers a put of a page that is held
 does_put_entry : {D : Type 0} (sense : Senses D) (o : Opening) (start : Start) (old new : State D) (was is : Seen) (w : Working) (past : List Event) (p : PageId) (at : ℕ) (bytes : List ℕ) (held : Held) (k : Kind)
@@ -456,7 +482,7 @@ does_put_entry : {D : Type 0} (sense : Senses D) (o : Opening) (start : Start) (
     → MayPrecede old.history [] k → IsLegalKind o past w.pass k → IsStillKind past k → IsCoveredKind (entries past) k → IsCausedKind o past w.pass k → IsVictimKind o.config (entries past) w.pass w.next k → AreExactWords old.history w.fixed (words_told k)
     → IsPromised o past (event.Entry (next_entry old (me w) k))
     → ((from : ℕ) × (end : ℕ) × (k ≡ kind.Put p at bytes from end)) ⊎ ((why : Cause) × (k ≡ kind.Refused (call.Put p at bytes) why))
-    → Does sense o start new is (answered w k) past (command.Put p at bytes)
+    → Does sense o start new is (with_answer w k) past (command.Put p at bytes)
 does_put_entry sense o start old new was is w past p at bytes held k so moves entry answers kept newest within last last_log before legal still covered causes victim exact promised form =
     let x : Entry = next_entry old (me w) k in
     let e : Event = event.Entry x in
@@ -472,7 +498,7 @@ does_put_entry sense o start old new was is w past p at bytes held k so moves en
       answer = e;
       before = [];
       quiet = refl;
-      so_far = so_far_after sense o start old new is (answered w k) (e ∷ past) [] (x ∷ old.history) moves.left entry.history
+      so_far = so_far_after sense o start old new is (with_answer w k) (e ∷ past) [] (x ∷ old.history) moves.left entry.history
           (so_far_answer sense o start desk is w past [] k there (record {
             logged = all.0;
             within = within;
@@ -482,13 +508,13 @@ does_put_entry sense o start old new was is w past p at bytes held k so moves en
             promised = promised;
             exact = exact;
           }) answers (subst F (sym kept) (falling_up w.next (w.next + 1) w.fixed (omega arith) so.falling)));
-      answers = subst M (sym here) form;
+      answers = λ h goes. subst M (sym here) form;
     }
 
 does_put : {D : Type 0} {rows more : List Row} (sense : Senses D) (o : Opening) (start : Start) (old new : State D) (was is : Seen) (w : Working) (past : List Event) (p : PageId) (at : ℕ) (bytes : List ℕ) (held : Held) (done : PutDone)
     → SoFar sense o start old was w past [] → newest_of w.fixed p ≡ Some held → (by : IsPutBy old new rows more (me w) p at bytes done) → was.end + 21 + length bytes ≤ done.lsn
     → log_end old.history ≤ was.end → IsLater was is → (IsLogged was old.history → IsLogged is new.history) → IsBody (page_bytes old.config.page) at (length bytes)
-    → Does sense o start new is (answered w (kind.Put p at bytes by.start done.lsn)) past (command.Put p at bytes)
+    → Does sense o start new is (with_answer w (kind.Put p at bytes by.start done.lsn)) past (command.Put p at bytes)
 does_put sense o start old new was is w past p at bytes held done so newest by span known later logged body =
     let k = kind.Put p at bytes by.start done.lsn in
     let here : newest_of (held_by past w.pass) p ≡ Some held = ap (λ fixes. newest_of fixes p) so.held ∙ newest in
@@ -510,7 +536,7 @@ does_put sense o start old new was is w past p at bytes held done so newest by s
 does_spent : {D : Type 0} (sense : Senses D) (o : Opening) (start : Start) (old new : State D) (was is : Seen) (w : Working) (past : List Event) (p : PageId) (at : ℕ) (bytes : List ℕ) (held : Held) (end : ℕ)
     → SoFar sense o start old was w past [] → newest_of w.fixed p ≡ Some held → IsSpentBy old new (me w) p at bytes was.end is.end end
     → log_end old.history ≤ was.end → IsLater was is → (IsLogged was old.history → IsLogged is new.history)
-    → Does sense o start new is (answered w (kind.Refused (call.Put p at bytes) (cause.LogSpent end))) past (command.Put p at bytes)
+    → Does sense o start new is (with_answer w (kind.Refused (call.Put p at bytes) (cause.LogSpent end))) past (command.Put p at bytes)
 does_spent sense o start old new was is w past p at bytes held end so newest spent known later logged =
     let k = kind.Refused (call.Put p at bytes) (cause.LogSpent end) in
     let here : newest_of (held_by past w.pass) p ≡ Some held = ap (λ fixes. newest_of fixes p) so.held ∙ newest in
@@ -519,13 +545,13 @@ does_spent sense o start old new was is w past p at bytes held end so newest spe
     does_put_entry sense o start old new was is w past p at bytes held k so (record { left = left; later = later.faults; logged = logged so.logged }) spent.entry refl refl newest
     tt (omega (arith, so.last_fault, left.later)) (omega (arith, so.last_log_fault, later.faults)) refl tt tt tt
     (is_held past w.pass p held here, record { behind = subst L (sym so.entries_are) (omega (arith, known, spent.known.0)); beyond = omega (arith, spent.beyond) }) tt tt
-    (record { own = refl; filed = refl; excused = tt; rising = tt }) (inr (cause.LogSpent end, refl))
+    (record { own = refl; filed = refl; excused = tt; rising = tt; begun = tt }) (inr (cause.LogSpent end, refl))
 
 -- the same, where some fix is the newest
 pub does_put_held : {D : Type 0} {rows more : List Row} (sense : Senses D) (o : Opening) (start : Start) (old new : State D) (was is : Seen) (w : Working) (past : List Event) (p : PageId) (at : ℕ) (bytes : List ℕ) (found : Option Held) (done : PutDone)
     → SoFar sense o start old was w past [] → newest_of w.fixed p ≡ found → IsSome found → (by : IsPutBy old new rows more (me w) p at bytes done) → was.end + 21 + length bytes ≤ done.lsn
     → log_end old.history ≤ was.end → IsLater was is → (IsLogged was old.history → IsLogged is new.history) → IsBody (page_bytes old.config.page) at (length bytes)
-    → Does sense o start new is (answered w (kind.Put p at bytes by.start done.lsn)) past (command.Put p at bytes)
+    → Does sense o start new is (with_answer w (kind.Put p at bytes by.start done.lsn)) past (command.Put p at bytes)
 does_put_held sense o start old new was is w past p at bytes None done so newest some by span known later logged body = absurd (cc)
 does_put_held sense o start old new was is w past p at bytes (Some held) done so newest some by span known later logged body =
     does_put sense o start old new was is w past p at bytes held done so newest by span known later logged body
@@ -533,7 +559,7 @@ does_put_held sense o start old new was is w past p at bytes (Some held) done so
 pub does_spent_held : {D : Type 0} (sense : Senses D) (o : Opening) (start : Start) (old new : State D) (was is : Seen) (w : Working) (past : List Event) (p : PageId) (at : ℕ) (bytes : List ℕ) (found : Option Held) (end : ℕ)
     → SoFar sense o start old was w past [] → newest_of w.fixed p ≡ found → IsSome found → IsSpentBy old new (me w) p at bytes was.end is.end end
     → log_end old.history ≤ was.end → IsLater was is → (IsLogged was old.history → IsLogged is new.history)
-    → Does sense o start new is (answered w (kind.Refused (call.Put p at bytes) (cause.LogSpent end))) past (command.Put p at bytes)
+    → Does sense o start new is (with_answer w (kind.Refused (call.Put p at bytes) (cause.LogSpent end))) past (command.Put p at bytes)
 does_spent_held sense o start old new was is w past p at bytes None end so newest some spent known later logged = absurd (cc)
 does_spent_held sense o start old new was is w past p at bytes (Some held) end so newest some spent known later logged =
     does_spent sense o start old new was is w past p at bytes held end so newest spent known later logged

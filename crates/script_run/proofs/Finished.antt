@@ -1,21 +1,18 @@
 -- A worker that is done, with the runner's writes and its closing entry, makes the trail of a run.
-use Rattle.std.proofs.Common.{◌≡◌, ℕ, Bool, true, false, cond, List, [], ◌∷◌, ◌++◌, ◌+◌, ◌≤◌, ◌&&◌, Option, Some, None, IfSome, length, drop, refl, ap, ◌∙◌, sym, subst, nat_eq, eq-eqb, filter, reverse, arith, inl, inr}
+use Rattle.std.proofs.Common.{◌≡◌, ℕ, Bool, true, false, cond, List, [], ◌∷◌, ◌++◌, ◌+◌, ◌≤◌, ◌&&◌, Option, Some, None, IfSome, refl, ap, ◌∙◌, sym, subst, nat_eq, eq-eqb, filter, reverse, arith, inl, inr}
 use Rattle.std.proofs.lemmas.Bool.Decides.{nat_tests}
 use Rattle.std.proofs.lemmas.List.{reverse-append, reverse-reverse}
 use Rattle.std.proofs.lemmas.List.Elements.{filter-append}
 use Rattle.std.specs.Prelude.{unwrap_or}
 use Rattle.page_ids.specs.Content.{Content}
-use Rattle.page_ids.specs.Faults.{Rose}
 use Rattle.page_ids.specs.declared.ids.PageId.{PageId}
 use Rattle.page_ids.specs.declared.config.Config.{Config}
 use Rattle.page_disk.specs.Disks.{pages_in}
 use Rattle.page_disk.specs.declared.shelf.FaultAt.{FaultAt}
 use Rattle.redo_mark.specs.Logs.{Seen}
-use Rattle.trail.specs.declared.event.Call.TheVariants as call
 use Rattle.trail.specs.declared.event.Entry.{Entry}
 use Rattle.trail.specs.declared.event.Receipt.{Receipt}
 use Rattle.trail.specs.declared.event.Kind.{Kind}
-use Rattle.trail.specs.declared.event.Kind.TheVariants as kind
 use Rattle.trail.specs.declared.event.Event.{Event}
 use Rattle.trail.specs.declared.event.Event.TheVariants as event
 use Rattle.trail.specs.Events.{Events}
@@ -23,15 +20,10 @@ use Rattle.trail.specs.Places.{mark, entries, receipts, AreNumbered, AreWithin}
 use Rattle.trail.specs.History.{disk_faults, log_faults}
 use Rattle.trail.specs.Dirt.{dirty}
 use Rattle.trail.specs.Calls.{caller_of, is_answer, kind_answers, next_number, under_way, held_by}
-use Rattle.trail.specs.Alone.{AreExact, AreExactWords, AreOnlyOf, words_told, closing_number}
-use Rattle.trail.specs.Victim.{IsVictimKind}
-use Rattle.trail.specs.declared.event.Held.{Held}
+use Rattle.trail.specs.Alone.{AreExact, AreOnlyOf, closing_number}
 use Rattle.trail.specs.Opening.{Opening}
-use Rattle.trail.specs.Legal.{MayPrecede, AreWrites, IsLegalKind, pages_of}
-use Rattle.trail.specs.Covered.{IsCoveredKind}
-use Rattle.trail.specs.Causes.{IsCausedKind}
-use Rattle.trail.specs.Laws.{IsLawful, IsGood, IsStillKind}
-use Rattle.trail.specs.Promises.{IsPromisedKind, ArePromised}
+use Rattle.trail.specs.Laws.{IsLawful, IsGood}
+use Rattle.trail.specs.Promises.{ArePromised}
 use Rattle.trail.specs.Merging.{merged, AllWithin, IsPlaced}
 use Rattle.desk.specs.State.{State}
 use Rattle.desk.specs.Steps.{IsFresh}
@@ -39,12 +31,13 @@ use Rattle.desk.specs.Logged.{IsLogged}
 use Rattle.desk.specs.Changes.{WritesBack}
 use Rattle.desk.specs.Ledger.{entry_behind}
 use Rattle.script_text.specs.declared.script.Command.{Command}
-use Rattle.script_run.specs.Todo.{Todo, answers_of}
-use Rattle.script_run.specs.Openings.{Start, opening_of, IsKindWithin, AreFaultsWithin}
+use Rattle.script_run.specs.Todo.{GoesOn, Todo, answers_of}
+use Rattle.script_run.specs.Openings.{Start, opening_of, AreFaultsWithin}
 use Rattle.script_run.specs.Work.{Senses, Working, SoFar, Worked, AreOf}
-use Rattle.script_run.specs.Runs.{IsRunOf, IsClosed, IsFlushedWith, RoseSo, AreOurs, closing_of, fault_cause}
+use Rattle.script_run.specs.Runs.{IsRunOf, IsClosed, IsFlushedWith, AreOfOneThread, closing_of}
 use Rattle.script_run.proofs.Flushing.{FrontLeaves, Flushed, flushed, runner}
-use Rattle.script_run.proofs.Progress.{append_nil}
+use Rattle.script_run.proofs.Closing.{Closes, clean_closes, fault_closes}
+use Rattle.script_run.proofs.Progress.{append_nil, goes_back_all, goes_here}
 use Rattle.script_run.proofs.Values.{faults_up}
 
 -- before the first call
@@ -130,7 +123,7 @@ filter_reverse p [] = refl
 filter_reverse p (x ∷ xs) =
     ap (filter p) (reverse-append (x ∷ []) xs) ∙ filter-append p (reverse xs) (x ∷ []) ∙ ap (λ l. l ++ cond (p x) (x ∷ []) []) (filter_reverse p xs) ∙ one_more (p x) x (filter p xs)
 
-ours : (past : List Event) → AreOf 1 past → AreOurs past
+ours : (past : List Event) → AreOf 1 past → AreOfOneThread past
 ours [] of = tt
 ours (e ∷ past) of = (omega (arith, of.0), ours past of.1)
 
@@ -145,68 +138,12 @@ closing_call past c e answers runs others = cases (nat_eq 0 c) refl
     cases true t = pick (kind_answers e.kind) (e.kind ∷ under_way past c) (under_way past c) answers ∙ ap (λ (b : Bool). cond b [] (under_way past c)) (ap (λ n. nat_eq n c) runs ∙ t)
     cases false t = pick (kind_answers e.kind) (e.kind ∷ under_way past c) (under_way past c) answers ∙ ap (λ (b : Bool). cond b [] (under_way past c)) (ap (λ n. nat_eq n c) runs ∙ t) ∙ others c t
 
--- what the runner's closing entry is, behind its writes
-record Closes (start : Start) (disk log : ℕ) (o : Opening) (past : List Event) (k : Kind) : Type 0 where
-  answers : kind_answers k ≡ true
-  before : (h : List Entry) (made : List Kind) → AreWrites made → MayPrecede h made k
-  legal : IsLegalKind o past 0 k
-  still : IsStillKind past k
-  covered : IsCoveredKind (entries past) k
-  causes : IsCausedKind o past 0 k
-  victim : IsVictimKind o.config (entries past) 0 1 k
-  exact : (h : List Entry) (held : List Held) → AreExactWords h held (words_told k)
-  promised : IsPromisedKind o past 0 k
-  within : IsKindWithin start disk log k
-
-fault_closes : (start : Start) (disk_was disk_is log_was log_is : ℕ) (o : Opening) (past : List Event) (log : Bool) (before after : ℕ) → start.disk_faults ≤ disk_was → start.log_faults ≤ log_was
-    → disk_faults (entries past) ≤ disk_was → log_faults (entries past) ≤ log_was → Rose before after → RoseSo log disk_was disk_is log_was log_is before after
-    → Closes start disk_is log_is o past (kind.Refused (call.Clean 16384) (fault_cause log before after))
-fault_closes start disk_was disk_is log_was log_is o past true before after low low_log last last_log rose counts = record {
-  answers = refl;
-  before = λ h made are. are;
-  legal = tt;
-  still = tt;
-  covered = tt;
-  causes = (refl, (rose, omega (arith, last_log, counts.first)));
-  victim = tt;
-  exact = λ h held. tt;
-  promised = record { own = refl; filed = refl; excused = tt; rising = tt };
-  within = (omega (arith, low_log, counts.first), omega (arith, counts.last));
-}
-fault_closes start disk_was disk_is log_was log_is o past false before after low low_log last last_log rose counts = record {
-  answers = refl;
-  before = λ h made are. are;
-  legal = tt;
-  still = tt;
-  covered = tt;
-  causes = (refl, (rose, omega (arith, last, counts.first)));
-  victim = tt;
-  exact = λ h held. tt;
-  promised = record { own = refl; filed = refl; excused = tt; rising = tt };
-  within = (omega (arith, low, counts.first), omega (arith, counts.last));
-}
-
-closes : (start : Start) (disk_was disk_is log_was log_is : ℕ) (o : Opening) (past : List Event) (n : ℕ) (mid : List Entry) (f : Flushed o start disk_is log_is past n mid) (fault : Option FaultAt)
+closes : (start : Start) (disk_was disk_is log_was log_is : ℕ) (o : Opening) (past : List Event) (n : ℕ) (mid : List Entry) (f : Flushed runner o start disk_is log_is past n mid) (fault : Option FaultAt)
     → start.disk_faults ≤ disk_was → start.log_faults ≤ log_was → disk_faults (entries past) ≤ disk_was → log_faults (entries past) ≤ log_was
-    → IfSome fault (λ f. IsFlushedWith disk_was disk_is log_was log_is f) → Closes start disk_is log_is o (f.writes ++ past) (closing_of fault n)
-closes start disk_was disk_is log_was log_is o past n mid f None low low_log last last_log flush =
-    let behind : drop (length (under_way (f.writes ++ past) 0)) (entries (f.writes ++ past)) ≡ entries past = ap (λ m. drop m (entries (f.writes ++ past))) f.count ∙ ap (drop n) f.entries_are ∙ f.before in
-    record {
-      answers = refl;
-      before = λ h made are. are;
-      legal = record { rest = pages_of (dirty mid); oldest = ap (λ h. pages_of (dirty h)) behind ∙ f.pages; count = sym f.count; none_skipped = refl };
-      still = tt;
-      covered = tt;
-      causes = refl;
-      victim = tt;
-      exact = λ h held. tt;
-      promised = tt;
-      within = tt;
-    }
-closes start disk_was disk_is log_was log_is o past n mid f (Some fault) low low_log last last_log flush =
-    let at : entries (f.writes ++ past) ≡ mid = f.entries_are in
-    fault_closes start disk_was disk_is log_was log_is o (f.writes ++ past) fault.log fault.before fault.after low low_log
-    (omega (arith, ap disk_faults at, f.last_fault, last)) (omega (arith, ap log_faults at, f.last_log_fault, last_log)) flush.where_is.rose flush.counts
+    → IfSome fault (λ f. IsFlushedWith disk_was disk_is log_was log_is f) → n ≤ 16384 → Closes runner start disk_is log_is o (f.writes ++ past) (closing_of fault n)
+closes start disk_was disk_is log_was log_is o past n mid f None low low_log last last_log flush most = clean_closes runner start disk_is log_is o past n mid f
+closes start disk_was disk_is log_was log_is o past n mid f (Some fault) low low_log last last_log flush most =
+    fault_closes runner start disk_was disk_is log_was log_is o past n mid f 16384 fault.log fault.before fault.after low low_log last last_log flush.where_is.rose flush.counts most
 
 placed : (o : Opening) (past : List Event) → IsGood o past → IsPlaced o.first past
 placed o [] good = tt
@@ -265,11 +202,11 @@ finished {D} sense o start desk new was is w commands fault history account trai
     let W : ℕ → List Entry → Type 0 = λ m h. WritesBack m runner n h closed.cleaned.mid in
     let WF : ℕ → Type 0 = λ m. W m desk.history in
     let writes : WritesBack o.first runner n (entries more) closed.cleaned.mid = subst (W o.first) (sym so.entries_are) (subst WF so.first_is closed.cleaned.writes) in
-    let f = flushed o start disk_is is.faults more n closed.cleaned.mid front so.good so.promised (next_other more 1 0 of_one refl) none faults writes in
+    let f = flushed runner o start disk_is is.faults more n closed.cleaned.mid front so.good so.promised (next_other more 1 0 of_one refl) none faults writes in
     let L : List Entry → Type 0 = λ h. disk_faults h ≤ sense.faults desk.disk in
     let G : List Entry → Type 0 = λ h. log_faults h ≤ was.faults in
     let c = closes start (sense.faults desk.disk) disk_is was.faults is.faults o more n closed.cleaned.mid f fault so.low_is so.low_log
-    (subst L (sym so.entries_are) so.last_fault) (subst G (sym so.entries_are) so.last_log_fault) flush in
+    (subst L (sym so.entries_are) so.last_fault) (subst G (sym so.entries_are) so.last_log_fault) flush closed.most in
     let entry : Entry = entry_behind desk.config.first closed.cleaned.mid runner k in
     let close : Event = event.Entry entry in
     let before : List Event = f.writes ++ more in
@@ -299,11 +236,13 @@ finished {D} sense o start desk new was is w commands fault history account trai
     let P : List Event → Type 0 = λ l. IsGood o l in
     let Q : List Event → Type 0 = λ l. ArePromised o l in
     let U : List Event → Type 0 = λ l. (d : ℕ) → under_way l d ≡ [] in
-    let A : List Event → Type 0 = λ l. AreOurs l in
+    let A : List Event → Type 0 = λ l. AreOfOneThread l in
     let X : List Event → Type 0 = λ l. (d : ℕ) → AreOnlyOf d (closing_number l) l → AreExact d l in
     let T : List Event → Type 0 = λ l. Todo (entries (reverse trail.events)) 1 commands [] l in
     let K : ℕ → Type 0 = λ m. Todo (entries (reverse trail.events)) m commands [] (reverse (filter is_answer more)) in
     let C : List Entry → Type 0 = λ h. dirty h ≡ [] in
+    let goes : GoesOn (more ++ []) (entries (reverse trail.events)) =
+    subst (λ l. GoesOn l (entries (reverse trail.events))) (sym (append_nil more)) (goes_back_all (close ∷ f.writes) more (entries (reverse trail.events)) (subst (λ l. GoesOn past (entries l)) (sym back) (goes_here past))) in
     let here : entries (reverse trail.events) ≡ new.history = ap entries back ∙ all in (
       record {
         lawful = record {
@@ -313,14 +252,14 @@ finished {D} sense o start desk new was is w commands fault history account trai
           alone = subst X (sym back) (λ d of. (c.exact (entries before) (held_by before d), f.exact d (exact_of more d (closing_number past) of_one (f.only d (closing_number past) of.1) exact)));
         };
         promised = subst Q (sym back) (c.promised, f.promised);
-        todo = subst T (sym (answers 1 ∙ ap reverse (f.quiet 1 ∙ answers_own more 1 of_one))) (subst K pass (done.todo (entries (reverse trail.events))));
+        todo = subst T (sym (answers 1 ∙ ap reverse (f.quiet 1 ∙ answers_own more 1 of_one))) (subst K pass (done.todo (entries (reverse trail.events)) goes));
         close = close;
         written = n;
         closed = answers 0 ∙ ap (λ (b : Bool). reverse (cond b (close ∷ filter (mine 0) before) (filter (mine 0) before))) c.answers
             ∙ ap (λ l. reverse (close ∷ l)) (f.quiet 0 ∙ answers_other more 1 0 of_one refl);
         closing_is = refl;
         last = (before, back);
-        others = subst A (sym back) (omega arith, f.ours (ours more of_one));
+        others = subst A (sym back) (omega arith, f.ours (omega arith) (ours more of_one));
         clean = λ fine. subst C (sym here) (closed.clean fine);
       },
       here,

@@ -21,7 +21,7 @@ use Rattle.desk.specs.declared.calls.FixErr.{FixErr}
 use Rattle.desk.specs.declared.calls.FixErr.TheVariants as refusal
 use Rattle.script_text.specs.declared.script.Command.TheVariants as command
 use Rattle.script_run.specs.Openings.{Start, opened_of}
-use Rattle.script_run.specs.Work.{Senses, Working, SoFar, StandsBehind, IsBehindIt, IsReady, Does, Along, IsRefusedFix, answered}
+use Rattle.script_run.specs.Work.{Senses, Working, SoFar, StandsBehind, IsBehindIt, IsReady, Does, Along, RefusesFix, with_answer}
 use Rattle.script_run.proofs.Growing.{me, Left, Moves, on_some}
 use Rattle.script_run.proofs.Along.{Keeps, Ties, along_hit, along_miss, along_refused, along_unread}
 use Rattle.script_run.proofs.Doing.{does_hit, does_miss, does_outside, does_full, does_unseated, does_uncovered, does_unwritten, does_faulted, does_unsound}
@@ -37,7 +37,7 @@ pub record Fixes {D : Type 0} (sense : Senses D) (old new : State D) (before aft
   pub known : log_end new.history ≤ is.end
   pub logged : IsLogged was old.history → IsLogged is new.history
 
-moves_of : {D : Type 0} (sense : Senses D) (o : Opening) (start : Start) (old new : State D) (before after : Plain) (was is : Seen) (w : Working) (past : List Event)
+pub moves_of : {D : Type 0} (sense : Senses D) (o : Opening) (start : Start) (old new : State D) (before after : Plain) (was is : Seen) (w : Working) (past : List Event)
     → Fixes sense old new before after was is w → SoFar sense o start old was w past [] → Moves sense old new was is
 moves_of sense o start old new before after was is w past fixes so = record { left = fixes.left; later = fixes.later.faults; logged = fixes.logged so.logged }
 
@@ -47,14 +47,14 @@ Did sense old new before was is w v p now = (o : Opening) (start : Start) (past 
 
 pub granted_along : {D : Type 0} (sense : Senses D) (old new : State D) (before after : Plain) (was is : Seen) (w : Working) (p : PageId) (now : ℕ) (g : Granted)
     → Fixes sense old new before after was is w → length w.fixed < 64 → IsGrantedBy sense.told old new before.rows after.rows (me w) p now g
-    → Along sense 1 old new before after was is w (answered w (kind.Fix p g.frame g.clock now))
+    → Along sense 1 old new before after was is w (with_answer w (kind.Fix p g.frame g.clock now))
 granted_along sense old new before after was is w p now g fixes few (inl hit) = along_hit sense old new before after was is w p now g hit few fixes.left fixes.grown fixes.behind fixes.tied fixes.later fixes.known
 granted_along sense old new before after was is w p now g fixes few (inr miss) = along_miss sense old new before after was is w p now g miss few fixes.left fixes.grown fixes.behind fixes.tied fixes.later fixes.known
 
 pub granted_does : {D : Type 0} (sense : Senses D) (old new : State D) (before after : Plain) (was is : Seen) (w : Working) (p : PageId) (now : ℕ) (g : Granted)
     → Fixes sense old new before after was is w → length w.fixed < 64 → p.page < pages_in (sense.spaces old.disk) p.space
     → ((o : Opened) → IsBehindIt sense o old before → IsSome (value o.size o.base old.history p)) → IsGrantedBy sense.told old new before.rows after.rows (me w) p now g
-    → Did sense old new before was is w (answered w (kind.Fix p g.frame g.clock now)) p now
+    → Did sense old new before was is w (with_answer w (kind.Fix p g.frame g.clock now)) p now
 granted_does sense old new before after was is w p now g fixes few inside valued (inl hit) =
     λ o start past so stands. does_hit sense o start old new was is w past p now g so (moves_of sense o start old new before after was is w past fixes so) hit inside few
 granted_does sense old new before after was is w p now g fixes few inside valued (inr miss) =
@@ -66,8 +66,8 @@ abbrev pub refused : Working → Working
 refused w = record w { next = w.next + 1 }
 
 pub refused_along : {D : Type 0} (sense : Senses D) (old new : State D) (before after : Plain) (was is : Seen) (w : Working) (p : PageId) (now held : ℕ) (answer : Result Granted FixErr)
-    → Fixes sense old new before after was is w → IsRefusedFix answer
-    → IfErr answer (λ e. IsFixRefusal sense.told sense.spaces sense.faults old new before.rows after.rows (me w) held p now was.faults is.faults e)
+    → Fixes sense old new before after was is w → RefusesFix answer
+    → IfErr answer (λ e. IsFixRefusal sense.told sense.spaces sense.faults old new before.rows after.rows (me w) held p now was.durable was.faults is.faults e)
     → Along sense 1 old new before after was is w (refused w)
 refused_along sense old new before after was is w p now held (Ok g) fixes refuses why = absurd refuses
 refused_along sense old new before after was is w p now held (Err refusal.OutOfMemory) fixes refuses why = absurd refuses
@@ -88,12 +88,12 @@ refused_along sense old new before after was is w p now held (Err (refusal.BadPa
     along_unread sense old why.2.had new before after was is w (call.Fix p now) (cause.BadPage bad) why.2.frame why.2.frame_is why.2.because.entry
     fixes.left fixes.grown fixes.behind fixes.tied fixes.later fixes.known
 
-fewer : (held n : ℕ) → held ≡ n → held < 64 → n < 64
+pub fewer : (held n : ℕ) → held ≡ n → held < 64 → n < 64
 fewer held n count few = subst (λ (k : ℕ). k < 64) count few
 
 pub refused_does : {D : Type 0} (sense : Senses D) (old new : State D) (before after : Plain) (was is : Seen) (w : Working) (p : PageId) (now held : ℕ) (answer : Result Granted FixErr)
-    → Fixes sense old new before after was is w → held ≡ length w.fixed → IsRefusedFix answer
-    → IfErr answer (λ e. IsFixRefusal sense.told sense.spaces sense.faults old new before.rows after.rows (me w) held p now was.faults is.faults e)
+    → Fixes sense old new before after was is w → held ≡ length w.fixed → RefusesFix answer
+    → IfErr answer (λ e. IsFixRefusal sense.told sense.spaces sense.faults old new before.rows after.rows (me w) held p now was.durable was.faults is.faults e)
     → ((o : Opened) (bad : BadPage) → IsBehindIt sense o old before → answer ≡ Err (refusal.BadPage bad) → value o.size o.base old.history p ≡ None)
     → Did sense old new before was is w (refused w) p now
 refused_does sense old new before after was is w p now held (Ok g) fixes count refuses why unsound = absurd refuses

@@ -59,14 +59,17 @@ row_here rows i row f same inside =
 row_else : (rows : List Row) (i : ℕ) (row : Row) (f : ℕ) → f ≢ i → (row_in (set rows i row) f).held ≡ (row_in rows f).held
 row_else rows i row f other = ap (λ (r : Row). r.held) (get_or-set_other rows i f row new_row other)
 
--- one fix more
-pub held_more : (rows : List Row) (fixed : List Held) (x : Held) → AreHeld rows fixed → AreHeld (set rows x.frame (held_row (row_in rows x.frame))) (x ∷ fixed)
-held_more rows fixed x held = λ f below.
-    let row = held_row (row_in rows x.frame) in
+-- a frame changes, and has one fix more
+pub held_with : (rows : List Row) (fixed : List Held) (x : Held) (row : Row) → row.held ≡ option_map (λ n. n + 1) (row_in rows x.frame).held → AreHeld rows fixed → AreHeld (set rows x.frame row) (x ∷ fixed)
+held_with rows fixed x row more held = λ f below.
     let inside = inside_of rows x.frame row f below in
     dite (ℕ_discrete f x.frame)
-    (λ same. row_here rows x.frame row f same inside ∙ ap (λ k. option_map (λ n. n + 1) (row_in rows k).held) (sym same) ∙ ap (option_map (λ n. n + 1)) (held f inside) ∙ ap Some (sym (same_frame x f fixed same)))
+    (λ same. row_here rows x.frame row f same inside ∙ more ∙ ap (λ k. option_map (λ n. n + 1) (row_in rows k).held) (sym same) ∙ ap (option_map (λ n. n + 1)) (held f inside) ∙ ap Some (sym (same_frame x f fixed same)))
     (λ other. row_else rows x.frame row f other ∙ held f inside ∙ ap Some (sym (other_frame x f fixed other)))
+
+-- and nothing else of it changes
+pub held_more : (rows : List Row) (fixed : List Held) (x : Held) → AreHeld rows fixed → AreHeld (set rows x.frame (held_row (row_in rows x.frame))) (x ∷ fixed)
+held_more rows fixed x held = held_with rows fixed x (held_row (row_in rows x.frame)) refl held
 
 -- a frame changes, and keeps its fixes
 pub held_kept : (rows : List Row) (fixed : List Held) (i : ℕ) (row : Row) → row.held ≡ (row_in rows i).held → AreHeld rows fixed → AreHeld (set rows i row) fixed

@@ -26,7 +26,7 @@ use Rattle.desk.specs.State.{State}
 use Rattle.desk.specs.Steps.{next_entry}
 use Rattle.desk.specs.Logged.{IsLogged, IsLoggedKind}
 use Rattle.script_run.specs.Openings.{Start, IsKindWithin}
-use Rattle.script_run.specs.Work.{Senses, Working, SoFar, AreOf, AreFalling, answered, noted, next_receipt}
+use Rattle.script_run.specs.Work.{Senses, Working, SoFar, AreOf, AreFalling, with_answer, with_note, next_receipt}
 use Rattle.script_run.proofs.Fixes.{falling_note}
 use Rattle.script_run.proofs.Values.{faults_up}
 
@@ -132,7 +132,7 @@ exact_event sense o start desk log w past pending k so exact =
 -- an entry that is the answer of the worker's call
 pub so_far_answer : {D : Type 0} (sense : Senses D) (o : Opening) (start : Start) (desk : State D) (log : Seen) (w : Working) (past : List Event) (pending : List Kind) (k : Kind)
     → SoFar sense o start desk log w past pending → Adds sense o start desk log w past k → kind_answers k ≡ true → AreFalling (w.next + 1) (held_after_kind w.next k w.fixed)
-    → SoFar sense o start (grown desk w k) log (answered w k) (event.Entry (next_entry desk (me w) k) ∷ past) []
+    → SoFar sense o start (grown desk w k) log (with_answer w k) (event.Entry (next_entry desk (me w) k) ∷ past) []
 so_far_answer sense o start desk log w past pending k so adds answers falls =
     let own : nat_eq w.pass w.pass ≡ true = eq-eqb w.pass w.pass refl in
     record {
@@ -189,7 +189,7 @@ so_far_under sense o start desk log w past pending k so adds silent kept =
 -- a receipt
 pub so_far_receipt : {D : Type 0} (sense : Senses D) (o : Opening) (start : Start) (desk : State D) (log : Seen) (w : Working) (past : List Event) (n : Note)
     → SoFar sense o start desk log w past [] → IsLawful o past (event.Receipt (next_receipt desk w n)) → IsPromised o past (event.Receipt (next_receipt desk w n))
-    → SoFar sense o start desk log (noted desk w n) (event.Receipt (next_receipt desk w n) ∷ past) []
+    → SoFar sense o start desk log (with_note desk w n) (event.Receipt (next_receipt desk w n) ∷ past) []
 so_far_receipt {D} sense o start desk log w past n so lawful promised =
     let own : nat_eq w.pass w.pass ≡ true = eq-eqb w.pass w.pass refl in
     record {

@@ -8,8 +8,12 @@ pub mod Staying
 pub mod Doing
 pub mod Along
 pub mod Fixing
+pub mod Making
+pub mod Created
 pub mod Progress
 pub mod Flushing
+pub mod Closing
+pub mod Cleaning
 pub mod Finished
 pub mod Resting
 pub mod Answering

@@ -13,31 +13,48 @@ use Rattle.trail.specs.declared.event.Kind.TheVariants as kind
 use Rattle.trail.specs.declared.event.Event.{Event}
 use Rattle.trail.specs.declared.event.Event.TheVariants as event
 use Rattle.trail.specs.Opening.{Opening}
+use Rattle.trail.specs.Places.{entries}
 use Rattle.trail.specs.Calls.{held_by, held_after_kind, held_after_note, newest_of, is_answer, kind_answers, given_back}
 use Rattle.desk.specs.State.{State}
 use Rattle.script_text.specs.declared.script.Command.{Command}
 use Rattle.script_text.specs.declared.script.Command.TheVariants as command
-use Rattle.script_run.specs.Todo.{Answers, Todo, GivesBack, IsReceiptOf, IsEntryOf, IsRefusal}
+use Rattle.script_run.specs.Todo.{Answers, GoesOn, Todo, GivesBack, IsReceiptOf, IsEntryOf, IsRefusal}
 use Rattle.redo_mark.specs.Logs.{Seen}
 use Rattle.script_run.specs.Openings.{Start}
-use Rattle.script_run.specs.Work.{Senses, Working, SoFar, Does, Progress, Ending, Worked, noted}
+use Rattle.script_run.specs.Work.{Senses, Working, SoFar, Does, Progress, Ending, Worked, with_note}
 use Rattle.script_run.proofs.Fixes.{same_self}
 use Rattle.script_run.proofs.Doing.{does_unfix}
 
 -- what a command has for its answer depends on the fixes that are held alone
-answers_along : (k : ℕ) (c : Command) (past earlier : List Event) (e : Event) → held_by past k ≡ held_by earlier k → Answers k c past e → Answers k c earlier e
-answers_along k (command.Fix p now) past earlier e same a = a
-answers_along k (command.Read p at len) past earlier e same a =
+answers_along : (h : List Entry) (k : ℕ) (c : Command) (past earlier : List Event) (e : Event) → held_by past k ≡ held_by earlier k → Answers h k c past e → Answers h k c earlier e
+answers_along h k (command.Fix p now) past earlier e same a = a
+answers_along h k (command.Create p now) past earlier e same a = a
+answers_along h k (command.Read p at len) past earlier e same a =
     let M : List Held → Type 0 = λ fixes. MatchOption (newest_of fixes p) (IsReceiptOf (note.Refused (call.Read p at len) cause.Unheld) e)
     (λ held. (bytes : List ℕ) × (clock : ℕ) × (length bytes ≡ len) × IsReceiptOf (note.Copied p at bytes clock) e) in
     subst M same a
-answers_along k (command.Put p at bytes) past earlier e same a =
+answers_along h k (command.Put p at bytes) past earlier e same a =
     let M : List Held → Type 0 = λ fixes. MatchOption (newest_of fixes p) (IsReceiptOf (note.Refused (call.Put p at bytes) cause.Unheld) e)
     (λ held. ((from : ℕ) × (end : ℕ) × IsEntryOf (kind.Put p at bytes from end) e) ⊎ IsRefusal (call.Put p at bytes) e) in
     subst M same a
-answers_along k (command.Unfix p) past earlier e same a =
+answers_along h k (command.Unfix p) past earlier e same a =
     let M : List Held → Type 0 = λ fixes. MatchOption (newest_of fixes p) (IsReceiptOf (note.Refused (call.Unfix p) cause.Unheld) e) (λ held. IsReceiptOf (note.Unfixed p held.frame held.number) e) in
     subst M same a
+answers_along h k (command.Clean bound) past earlier e same a = a
+answers_along h k command.Checkpoint past earlier e same a = a
+
+-- a history that goes on from some events goes on from those before them
+goes_back : (e : Event) (past : List Event) (h : List Entry) → GoesOn (e ∷ past) h → GoesOn past h
+goes_back (event.Entry e) past h (later, is) = (later ++ e ∷ [], is ∙ sym (append_assoc later (e ∷ []) (entries past)))
+goes_back (event.Receipt r) past h goes = goes
+
+pub goes_back_all : (more past : List Event) (h : List Entry) → GoesOn (more ++ past) h → GoesOn past h
+goes_back_all [] past h goes = goes
+goes_back_all (e ∷ more) past h goes = goes_back_all more past h (goes_back e (more ++ past) h goes)
+
+-- the history of some events goes on from them
+pub goes_here : (past : List Event) → GoesOn past (entries past)
+goes_here past = ([], refl)
 
 quiet_kind : (n : ℕ) (k : Kind) (held : List Held) → kind_answers k ≡ false → held_after_kind n k held ≡ held
 quiet_kind n (kind.Load p f) held silent = refl
@@ -97,13 +114,18 @@ put_answers (Some held) e p at bytes (inl done) = ap kind_answers done.2
 put_answers (Some held) e p at bytes (inr refused) = refusal_answers e (call.Put p at bytes) refused
 
 -- an answer of a command answers
-answers_answer : (k : ℕ) (c : Command) (past : List Event) (e : Event) → Answers k c past e → is_answer e ≡ true
-answers_answer k c past (event.Receipt r) a = refl
-answers_answer k (command.Fix p now) past (event.Entry e) (inl granted) = ap kind_answers granted.2
-answers_answer k (command.Fix p now) past (event.Entry e) (inr refused) = refusal_answers e (call.Fix p now) refused
-answers_answer k (command.Read p at len) past (event.Entry e) a = no_receipt (newest_of (held_by past k) p) e _ _ (λ x. x) (λ h x. x.3) a
-answers_answer k (command.Put p at bytes) past (event.Entry e) a = put_answers (newest_of (held_by past k) p) e p at bytes a
-answers_answer k (command.Unfix p) past (event.Entry e) a = no_receipt (newest_of (held_by past k) p) e _ _ (λ x. x) (λ h x. x) a
+answers_answer : (h : List Entry) (k : ℕ) (c : Command) (past : List Event) (e : Event) → Answers h k c past e → is_answer e ≡ true
+answers_answer h k c past (event.Receipt r) a = refl
+answers_answer h k (command.Fix p now) past (event.Entry e) (inl granted) = ap kind_answers granted.2
+answers_answer h k (command.Fix p now) past (event.Entry e) (inr refused) = refusal_answers e (call.Fix p now) refused
+answers_answer h k (command.Create p now) past (event.Entry e) (inl granted) = ap kind_answers granted.3
+answers_answer h k (command.Create p now) past (event.Entry e) (inr refused) = refusal_answers e (call.Create p now) refused
+answers_answer h k (command.Read p at len) past (event.Entry e) a = no_receipt (newest_of (held_by past k) p) e _ _ (λ x. x) (λ h x. x.3) a
+answers_answer h k (command.Put p at bytes) past (event.Entry e) a = put_answers (newest_of (held_by past k) p) e p at bytes a
+answers_answer h k (command.Unfix p) past (event.Entry e) a = no_receipt (newest_of (held_by past k) p) e _ _ (λ x. x) (λ h x. x) a
+answers_answer h k (command.Clean bound) past (event.Entry e) (inl cleaned) = ap kind_answers cleaned.1
+answers_answer h k (command.Clean bound) past (event.Entry e) (inr refused) = refusal_answers e (call.Clean bound) refused
+answers_answer h k command.Checkpoint past (event.Entry e) (lsn, is) = ap kind_answers is
 
 quiet_test : (b : Bool) (e : Event) (es xs : List Event) → b ≡ false → xs ≡ es → cond b (e ∷ xs) xs ≡ es
 quiet_test true e es xs bad same = absurd (cc)
@@ -132,21 +154,24 @@ pub progress_more : {D : Type 0} (sense : Senses D) (o : Opening) (start : Start
 progress_more sense o start desk new was is w v past commands c rest pass so does =
     let H : ℕ → Type 0 = λ k. held_by (so.more ++ past) k ≡ held_by (so.done ++ past) k in
     let held : held_by (so.more ++ past) v.pass ≡ held_by (so.done ++ past) v.pass = subst H (sym pass) so.held in
-    let L : ℕ → Type 0 = λ k. (h : List Entry) (tail : List Event) → Todo h k (c ∷ rest) (so.done ++ past) tail → Todo h k commands past (reverse so.done ++ tail) in
+    let L : ℕ → Type 0 = λ k. (h : List Entry) (tail : List Event) → GoesOn (so.more ++ past) h → Todo h k (c ∷ rest) (so.done ++ past) tail → Todo h k commands past (reverse so.done ++ tail) in
     let left = subst L (sym pass) so.left in
+    let now : List Event = does.answer ∷ (does.before ++ (so.more ++ past)) in
     let all : does.answer ∷ (does.before ++ (so.more ++ past)) ≡ does.answer ∷ ((does.before ++ so.more) ++ past) = ap (λ t. does.answer ∷ t) (sym (append_assoc does.before so.more past)) in
     let S : List Event → Type 0 = λ p. SoFar sense o start new is v p [] in
     record {
       more = does.answer ∷ does.before ++ so.more;
       done = does.answer ∷ so.done;
       so_far = subst S all does.so_far;
-      done_are = filter_answer does.answer does.before so.more so.done (answers_answer v.pass c (so.more ++ past) does.answer does.answers) does.quiet so.done_are;
+      done_are = filter_answer does.answer does.before so.more so.done (answers_answer (entries now) v.pass c (so.more ++ past) does.answer (does.answers (entries now) (goes_here now))) does.quiet so.done_are;
       held = ap (λ p. held_by p v.pass) (sym all) ∙ held_along does.answer (does.before ++ (so.more ++ past)) (so.done ++ past) v.pass (held_quiet does.before (so.more ++ past) v.pass does.quiet ∙ held);
-      left = λ h tail t.
+      left = λ h tail goes t.
+          let G : List Event → Type 0 = λ l. GoesOn l h in
+          let here : GoesOn now h = subst G (sym all) goes in
           let T : List Event → Type 0 = λ l. Todo h v.pass commands past l in
           let one : Todo h v.pass (c ∷ rest) (so.done ++ past) (does.answer ∷ tail) =
-          (does.answer ∷ [], tail, refl, (does.answer, refl, answers_along v.pass c (so.more ++ past) (so.done ++ past) does.answer held does.answers), t) in
-          subst T (sym (around does.answer so.done tail)) (left h (does.answer ∷ tail) one);
+          (does.answer ∷ [], tail, refl, (does.answer, refl, answers_along h v.pass c (so.more ++ past) (so.done ++ past) does.answer held (does.answers h here)), t) in
+          subst T (sym (around does.answer so.done tail)) (left h (does.answer ∷ tail) (goes_back_all (does.answer ∷ does.before) (so.more ++ past) h here) one);
     }
 
 pub ending_start : {D : Type 0} (sense : Senses D) (o : Opening) (start : Start) (desk : State D) (log : Seen) (w : Working) (past : List Event) (commands : List Command) → Progress sense o start desk log w past commands [] → Ending sense o start desk log w past commands
@@ -155,31 +180,34 @@ ending_start sense o start desk log w past commands so = record {
   done = so.done;
   so_far = so.so_far;
   done_are = so.done_are;
-  left = λ h tail back. let G : List Held → Type 0 = λ held. GivesBack held tail in so.left h tail (subst G (sym so.so_far.held ∙ so.held) back);
+  left = λ h tail goes back. let G : List Held → Type 0 = λ held. GivesBack held tail in so.left h tail goes (subst G (sym so.so_far.held ∙ so.held) back);
 }
 
 pub ending_more : {D : Type 0} (sense : Senses D) (o : Opening) (start : Start) (desk : State D) (log : Seen) (w : Working) (past : List Event) (commands : List Command) (h : Held) (rest : List Held)
-    → w.fixed ≡ h ∷ rest → Ending sense o start desk log w past commands → Ending sense o start desk log (noted desk w (note.Unfixed h.page h.frame h.number)) past commands
+    → w.fixed ≡ h ∷ rest → Ending sense o start desk log w past commands → Ending sense o start desk log (with_note desk w (note.Unfixed h.page h.frame h.number)) past commands
 ending_more sense o start desk log w past commands h rest first so =
-    let v : Working = noted desk w (note.Unfixed h.page h.frame h.number) in
+    let v : Working = with_note desk w (note.Unfixed h.page h.frame h.number) in
     let newest : newest_of w.fixed h.page ≡ Some h = ap (λ held. newest_of held h.page) first ∙ ap (λ (b : Bool). cond b (Some h) (newest_of rest h.page)) (same_self h.page) in
     let does : Does sense o start desk log v (so.more ++ past) (command.Unfix h.page) = does_unfix sense o start desk log w (so.more ++ past) h.page h so.so_far newest in
     let left_over : v.fixed ≡ rest = ap (given_back h.number) first ∙ ap (λ (b : Bool). cond b rest (h ∷ given_back h.number rest)) (eq-eqb h.number h.number refl) in
     let here : newest_of (held_by (so.more ++ past) w.pass) h.page ≡ Some h = ap (λ fixes. newest_of fixes h.page) so.so_far.held ∙ newest in
     let M : Option Held → Type 0 = λ found. MatchOption found (IsReceiptOf (note.Refused (call.Unfix h.page) cause.Unheld) does.answer) (λ held. IsReceiptOf (note.Unfixed h.page held.frame held.number) does.answer) in
-    let answer : IsReceiptOf (note.Unfixed h.page h.frame h.number) does.answer = subst M here does.answers in
+    let now : List Event = does.answer ∷ (does.before ++ (so.more ++ past)) in
+    let answer : IsReceiptOf (note.Unfixed h.page h.frame h.number) does.answer = subst M here (does.answers (entries now) (goes_here now)) in
     let all : does.answer ∷ (does.before ++ (so.more ++ past)) ≡ does.answer ∷ ((does.before ++ so.more) ++ past) = ap (λ t. does.answer ∷ t) (sym (append_assoc does.before so.more past)) in
     let S : List Event → Type 0 = λ p. SoFar sense o start desk log v p [] in
     record {
       more = does.answer ∷ does.before ++ so.more;
       done = does.answer ∷ so.done;
       so_far = subst S all does.so_far;
-      done_are = filter_answer does.answer does.before so.more so.done (answers_answer v.pass (command.Unfix h.page) (so.more ++ past) does.answer does.answers) does.quiet so.done_are;
-      left = λ hist tail back.
+      done_are = filter_answer does.answer does.before so.more so.done (answers_answer (entries now) v.pass (command.Unfix h.page) (so.more ++ past) does.answer (does.answers (entries now) (goes_here now))) does.quiet so.done_are;
+      left = λ hist tail goes back.
+          let L : List Event → Type 0 = λ l. GoesOn l hist in
+          let was : GoesOn (so.more ++ past) hist = goes_back_all (does.answer ∷ does.before) (so.more ++ past) hist (subst L (sym all) goes) in
           let T : List Event → Type 0 = λ t. Todo hist v.pass commands past t in
           let G : List Held → Type 0 = λ held. GivesBack held tail in
           let F : List Held → Type 0 = λ held. GivesBack held (does.answer ∷ tail) in
-          subst T (sym (around does.answer so.done tail)) (so.left hist (does.answer ∷ tail) (subst F (sym first) (answer, subst G left_over back)));
+          subst T (sym (around does.answer so.done tail)) (so.left hist (does.answer ∷ tail) was (subst F (sym first) (answer, subst G left_over back)));
     }
 
 pub worked : {D : Type 0} (sense : Senses D) (o : Opening) (start : Start) (desk : State D) (log : Seen) (w : Working) (past : List Event) (commands : List Command) → w.fixed ≡ [] → Ending sense o start desk log w past commands → Worked sense o start desk log w past commands
@@ -189,7 +217,7 @@ worked sense o start desk log w past commands none so =
       more = so.more;
       so_far = so.so_far;
       none = none;
-      todo = λ h.
+      todo = λ h goes.
           let T : List Event → Type 0 = λ t. Todo h w.pass commands past t in
-          subst T (append_nil (reverse so.done) ∙ ap reverse (sym so.done_are)) (so.left h [] (subst G (sym none) tt));
+          subst T (append_nil (reverse so.done) ∙ ap reverse (sym so.done_are)) (so.left h [] goes (subst G (sym none) tt));
     }

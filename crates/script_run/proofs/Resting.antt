@@ -1,5 +1,6 @@
 -- What disk and log hold behind the trail of a run.
-use Rattle.std.proofs.Common.{◌≡◌, ◌<◌, ◌≤◌, ◌+◌, ℕ, Bool, true, false, List, [], ◌∷◌, ◌++◌, Option, None, Some, IfSome, IsSomeAnd, MatchOption, length, refl, arith, length-append, take, ◌-◌}
+use Rattle.std.proofs.Common.{◌≡◌, ◌<◌, ◌≤◌, ◌+◌, ℕ, Bool, true, false, List, [], ◌∷◌, ◌++◌, Option, None, Some, IfSome, IsSomeAnd, MatchOption, length, refl, ap, arith, length-append, take, ◌-◌}
+use Rattle.std.proofs.lemmas.List.{length-take-le}
 use Rattle.std.specs.Int.{w16, w32, w64, to_be_bytes}
 use Rattle.page_ids.specs.Content.{Content}
 use Rattle.page_ids.specs.Layout.{IsPage}
@@ -7,7 +8,7 @@ use Rattle.page_ids.specs.declared.ids.PageId.{PageId}
 use Rattle.page_disk.specs.Disks.{Fades}
 use Rattle.page_disk.specs.declared.shelf.FaultAt.{FaultAt}
 use Rattle.redo_mark.specs.Device.{Told, IsOpening}
-use Rattle.redo_mark.specs.Logs.{Seen, Holds, IsAllKept, IsKeptAt}
+use Rattle.redo_mark.specs.Logs.{Seen, Holds, IsKept, IsAllKept, IsKeptAt}
 use Rattle.redo_mark.specs.Records.{head_of, record_of}
 use Rattle.trail.specs.declared.event.Cause.{Cause}
 use Rattle.trail.specs.declared.event.Cause.TheVariants as cause
@@ -27,9 +28,9 @@ use Rattle.trail.specs.Saved.{is_written, saved}
 use Rattle.frame_words.specs.Seen.{FramesSeen}
 use Rattle.desk.specs.Base.{Opened}
 use Rattle.desk.specs.Behind.{IsBehind}
-use Rattle.desk.specs.Logged.{IsLogged, IsLoggedKind, IsLoggedCause, put_change}
+use Rattle.desk.specs.Logged.{IsLogged, IsLoggedKind, IsLoggedCause, put_change, create_change}
 use Rattle.desk.specs.State.{State}
-use Rattle.script_run.specs.Runs.{IsSavedPage, IsValuedPage, IsDiskOf, IsKeptKind, AreKept, EndsKind, EndsCause, EndsBehind, IsExtended}
+use Rattle.script_run.specs.Runs.{IsSavedPage, IsValuedPage, IsDiskOf, IsKeptKind, KeepsRecords, IsKeptBelow, KeepsRecordsBelow, EndsKind, EndsCause, EndsBehind, IsExtended}
 
 -- the bytes of a put's record
 record_length : (p : PageId) (at : ℕ) (bytes : List ℕ) (from : ℕ) → length (record_of (put_change p at bytes) from) ≡ 21 + length bytes
@@ -41,6 +42,14 @@ record_length p at bytes from =
   where
     kind_and_place : List ℕ
     kind_and_place = 1 ∷ to_be_bytes w32 p.space ++ to_be_bytes w32 p.page ++ to_be_bytes w16 at ++ to_be_bytes w16 (length bytes)
+
+-- and of a create's
+created_length : (p : PageId) (from : ℕ) → length (record_of (create_change p) from) ≡ 21
+created_length p from =
+    let head = head_of (create_change p) in
+    let a : length (record_of (create_change p) from) ≡ length head + 8 = length-append head (to_be_bytes w64 (from + length head + 8)) in
+    let b : length head ≡ 13 = refl in
+    omega (arith, a, b)
 
 cause_ends : (log : Seen) (why : Cause) → IsLoggedCause log why → EndsCause log.end why
 cause_ends log (cause.PlacesSpent mark need) logged = tt
@@ -70,7 +79,7 @@ kind_ends : (o : Opening) (past : List Event) (c : ℕ) (log : Seen) (k : Kind) 
     → EndsKind log.end k × (log_end (entries past) ≤ log.end)
 kind_ends o past c log (kind.Load p f) legal logged le = (tt, le)
 kind_ends o past c log (kind.Fix p f clock now) legal logged le = (tt, le)
-kind_ends o past c log (kind.Create p f from to now) legal logged le = absurd legal
+kind_ends o past c log (kind.Create p f from to now) legal logged le = (le, omega (arith, legal.behind, legal.record_is, le))
 kind_ends o past c log (kind.Put p at bytes from to) legal logged le = (le, omega (arith, legal.behind, legal.record_is, le))
 kind_ends o past c log (kind.Evict p f passed) legal logged le = (tt, le)
 kind_ends o past c log (kind.Write p lsn upto) legal logged le = (tt, le)
@@ -130,7 +139,7 @@ kind_kept : (o : Opening) (past : List Event) (c : ℕ) (log : Seen) (told : Opt
     → log_end_after k (log_end (entries past)) ≤ durable → IsKeptKind log.first told k × (log_end (entries past) ≤ durable)
 kind_kept o past c log told durable (kind.Load p f) records legal logged le = (tt, le)
 kind_kept o past c log told durable (kind.Fix p f clock now) records legal logged le = (tt, le)
-kind_kept o past c log told durable (kind.Create p f from to now) records legal logged le = absurd legal
+kind_kept o past c log told durable (kind.Create p f from to now) records legal logged le = (records (record_of (create_change p) from) from logged (omega (arith, created_length p from, legal.record_is, le)), omega (arith, legal.behind, legal.record_is, le))
 kind_kept o past c log told durable (kind.Put p at bytes from to) records legal logged le = (records (record_of (put_change p at bytes) from) from logged (omega (arith, record_length p at bytes from, legal.record_is, le)), omega (arith, legal.behind, legal.record_is, le))
 kind_kept o past c log told durable (kind.Evict p f passed) records legal logged le = (tt, le)
 kind_kept o past c log told durable (kind.Write p lsn upto) records legal logged le = (tt, le)
@@ -150,12 +159,43 @@ kind_kept o past c log told durable (kind.Dump pct ids) records legal logged le 
 kind_kept o past c log told durable (kind.Refused asked why) records legal logged le = (tt, le)
 
 pub are_kept : (o : Opening) (past : List Event) (log : Seen) (told : Option Told) (durable : ℕ) → Records log told durable → IsGood o past → IsLogged log (entries past) → log_end (entries past) ≤ durable
-    → AreKept log.first told (entries past)
+    → KeepsRecords log.first told (entries past)
 are_kept o [] log told durable records good logged le = tt
 are_kept o (event.Entry e ∷ past) log told durable records good logged le =
     let here = kind_kept o past e.caller log told durable e.kind records good.0.legal.kind logged.0 le in
     (here.0, are_kept o past log told durable records good.1 logged.1 here.1)
 are_kept o (event.Receipt r ∷ past) log told durable records good logged le = are_kept o past log told durable records good.1 logged le
+
+kind_kept_below : (o : Opening) (past : List Event) (c : ℕ) (log : Seen) (told : Option Told) (durable : ℕ) (k : Kind) → Records log told durable → IsLegalKind o past c k → IsLoggedKind log k
+    → IsKeptBelow log.first durable told k
+kind_kept_below o past c log told durable (kind.Load p f) records legal logged = tt
+kind_kept_below o past c log told durable (kind.Fix p f clock now) records legal logged = tt
+kind_kept_below o past c log told durable (kind.Create p f from to now) records legal logged = λ le. records (record_of (create_change p) from) from logged (omega (arith, created_length p from, legal.record_is, le))
+kind_kept_below o past c log told durable (kind.Put p at bytes from to) records legal logged = λ le. records (record_of (put_change p at bytes) from) from logged (omega (arith, record_length p at bytes from, legal.record_is, le))
+kind_kept_below o past c log told durable (kind.Evict p f passed) records legal logged = tt
+kind_kept_below o past c log told durable (kind.Write p lsn upto) records legal logged = tt
+kind_kept_below o past c log told durable (kind.Move p from to) records legal logged = tt
+kind_kept_below o past c log told durable (kind.Withdraw from) records legal logged = tt
+kind_kept_below o past c log told durable (kind.Undo from) records legal logged = tt
+kind_kept_below o past c log told durable (kind.Shrink chunks) records legal logged = tt
+kind_kept_below o past c log told durable (kind.Grow chunks) records legal logged = tt
+kind_kept_below o past c log told durable (kind.Resize bytes chunks) records legal logged = tt
+kind_kept_below o past c log told durable (kind.Clean written skipped) records legal logged = tt
+kind_kept_below o past c log told durable (kind.Check lsn) records legal logged = tt
+kind_kept_below o past c log told durable (kind.WatchSet p) records legal logged = tt
+kind_kept_below o past c log told durable (kind.WatchAt p f) records legal logged = tt
+kind_kept_below o past c log told durable (kind.Occurred p arrived) records legal logged = tt
+kind_kept_below o past c log told durable (kind.Unwatch p) records legal logged = tt
+kind_kept_below o past c log told durable (kind.Dump pct ids) records legal logged = tt
+kind_kept_below o past c log told durable (kind.Refused asked why) records legal logged = tt
+
+-- whether or not the closing flush failed
+pub are_kept_below : (o : Opening) (past : List Event) (log : Seen) (told : Option Told) (durable : ℕ) → Records log told durable → IsGood o past → IsLogged log (entries past)
+    → KeepsRecordsBelow log.first durable told (entries past)
+are_kept_below o [] log told durable records good logged = tt
+are_kept_below o (event.Entry e ∷ past) log told durable records good logged =
+    (kind_kept_below o past e.caller log told durable e.kind records good.0.legal.kind logged.0, are_kept_below o past log told durable records good.1 logged.1)
+are_kept_below o (event.Receipt r ∷ past) log told durable records good logged = are_kept_below o past log told durable records good.1 logged
 
 -- nothing but the log's bytes came behind what the log kept at its opening
 pub extended : (opened : ℕ) (was now : Option Told) (log : Seen) → IsAllKept opened was log now → IfSome was (IsOpening opened) → IsExtended was now
@@ -166,6 +206,24 @@ extended opened (Some s) (Some t) log all opening = bytes_of log.bytes (all open
     bytes_of : (bytes : Option (List ℕ)) → IsSomeAnd bytes (λ b. t.kept ≡ s.kept ++ take (log.durable - log.opened) b) → (more : List ℕ) × (t.kept ≡ s.kept ++ more)
     bytes_of None is = absurd is
     bytes_of (Some b) is = (take (log.durable - log.opened) b, is)
+
+-- what the log keeps ends at its durable mark
+pub long_of : (opened first : ℕ) (was now : Option Told) (log : Seen) → IsAllKept opened was log now → IfSome was (IsOpening opened) → IsKept log now → log.opened ≡ first + opened
+    → log.opened ≤ log.durable → log.durable ≤ log.end → IfSome was (λ s. IsSomeAnd now (λ t. first + length t.kept ≡ log.durable))
+long_of opened first None now log all opening kept at low high = tt
+long_of opened first (Some s) None log all opening kept at low high = absurd all
+long_of opened first (Some s) (Some t) log all opening kept at low high = by_bytes log.bytes (all opening) kept
+  where
+    by_bytes : (bytes : Option (List ℕ)) → IsSomeAnd bytes (λ b. t.kept ≡ s.kept ++ take (log.durable - log.opened) b)
+        → IsSomeAnd bytes (λ b. (front rest : List ℕ) × (t.kept ≡ front ++ take (log.durable - log.opened) b ++ rest) × (log.first + length front ≡ log.opened) × (log.opened + length b ≡ log.end))
+        → first + length t.kept ≡ log.durable
+    by_bytes None is there = absurd is
+    by_bytes (Some b) is there =
+        let n = log.durable - log.opened in
+        let all_kept = ap (length {A = ℕ}) is in
+        let parts = length-append s.kept (take n b) in
+        let taken : length (take n b) ≡ n = length-take-le n b (omega (arith, there.4, low, high)) in
+        omega (arith, all_kept, parts, taken, opening.1, at, low)
 
 saved_page : (b : Bool) (was now : Option (List ℕ)) (kept : Option Content) (p : PageId) → (b ≡ true → IfSome now (λ bytes. IfSome kept (λ c. IsPage p bytes c))) → (b ≡ false → Fades was now)
     → IfSome now (λ bytes. IsSavedPage b was kept p bytes)
@@ -184,5 +242,6 @@ pub disk_of : {D : Type 0} (tells : D → Bool) (told : D → PageId → Option 
     → IsDiskOf o.size o.base o.pages o.told (told desk.disk) fault desk.history
 disk_of tells told spaces o desk frames fault behind rests = record {
   saved = λ p inside. saved_page (is_written desk.history p) (o.told p) (told desk.disk p) (saved o.size o.base desk.history p) p (behind.written p) (behind.unwritten p);
+  told = λ p inside clean there. behind.clean p clean there;
   whole = λ fine p inside. valued_page (o.told p) (told desk.disk p) (value o.size o.base desk.history p) p (rests fine p inside);
 }

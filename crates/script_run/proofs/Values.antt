@@ -1,6 +1,7 @@
 -- Homes, values and counts of faults as entries are appended.
 use Rattle.std.proofs.Common.{◌≡◌, ℕ, List, [], ◌∷◌, ◌≤◌, Option, refl, arith}
 use Rattle.page_ids.specs.declared.ids.PageId.{PageId}
+use Rattle.page_ids.specs.declared.frame_word.Word.{Word}
 use Rattle.trail.specs.declared.event.Entry.{Entry}
 use Rattle.trail.specs.declared.event.Call.{Call}
 use Rattle.trail.specs.declared.event.Cause.{Cause}
@@ -22,6 +23,12 @@ put_leaves p at bytes start end = record { homes = λ q b. refl }
 
 pub write_leaves : (p : PageId) (lsn upto : ℕ) → Leaves (kind.Write p lsn upto)
 write_leaves p lsn upto = record { homes = λ q b. refl }
+
+pub clean_leaves : (written : ℕ) (skipped : List (ℕ × Word)) → Leaves (kind.Clean written skipped)
+clean_leaves written skipped = record { homes = λ q b. refl }
+
+pub check_leaves : (lsn : ℕ) → Leaves (kind.Check lsn)
+check_leaves lsn = record { homes = λ q b. refl }
 
 pub refused_leaves : (c : Call) (why : Cause) → Leaves (kind.Refused c why)
 refused_leaves c why = record { homes = λ q b. refl }

@@ -1,5 +1,5 @@
 -- What a run answers, by its status.
-use Rattle.std.specs.Prelude.{ℕ, Bool, true, false, List, [], ◌∷◌, ◌++◌, ◌≡◌, ◌+◌, ◌<◌, ◌≤◌, ◌^◌, ◌⊎◌, Option, None, Some, IsSome, IsSomeAnd, IfSome, IsTrue, take, ⊤, reverse, unwrap_or}
+use Rattle.std.specs.Prelude.{ℕ, Bool, true, false, List, [], ◌∷◌, ◌++◌, ◌≡◌, ◌+◌, ◌<◌, ◌≤◌, ◌^◌, ◌⊎◌, Option, None, Some, IsSome, IsSomeAnd, IfSome, IsTrue, take, length, ⊤, reverse, unwrap_or}
 use Rattle.std.specs.List.{list_any}
 use Rattle.page_ids.specs.Content.{Content}
 use Rattle.page_ids.specs.Faults.{Rose}
@@ -22,7 +22,8 @@ use Rattle.trail.specs.declared.event.Event.TheVariants as event
 use Rattle.trail.specs.Events.{Events}
 use Rattle.trail.specs.Places.{entries}
 use Rattle.trail.specs.History.{value}
-use Rattle.trail.specs.Dirt.{dirty}
+use Rattle.trail.specs.Dirt.{dirty, is_dirty}
+use Rattle.trail.specs.Covered.{AreDurable}
 use Rattle.trail.specs.Saved.{is_written, saved}
 use Rattle.trail.specs.Calls.{caller_of}
 use Rattle.trail.specs.Opening.{Opening}
@@ -47,22 +48,22 @@ use Rattle.script_run.specs.Openings.{Start, opening_of, AreFaultsWithin}
 use Rattle.script_run.specs.Work.{Senses}
 
 -- the events are of thread 1 and of the runner, caller 0
-abbrev pub AreOurs : List Event → Type 0
-AreOurs [] = ⊤
-AreOurs (e ∷ past) = (caller_of e ≤ 1) × AreOurs past
+abbrev pub AreOfOneThread : List Event → Type 0
+AreOfOneThread [] = ⊤
+AreOfOneThread (e ∷ past) = (caller_of e ≤ 1) × AreOfOneThread past
 
 -- the cause by which a fault of the closing flush is told
 abbrev pub fault_cause : Bool → ℕ → ℕ → Cause
 fault_cause true before after = cause.RedoFault before after
 fault_cause false before after = cause.DiskFault before after
 
-abbrev pub cause_of : FaultAt → Cause
-cause_of f = fault_cause f.log f.before f.after
+abbrev pub cause_at : FaultAt → Cause
+cause_at f = fault_cause f.log f.before f.after
 
 -- the entry that closes a trail: a clean that wrote so many pages, or its refusal by the fault
 abbrev pub closing_of : Option FaultAt → ℕ → Kind
 closing_of None written = kind.Clean written []
-closing_of (Some f) written = kind.Refused (call.Clean 16384) (cause_of f)
+closing_of (Some f) written = kind.Refused (call.Clean 16384) (cause_at f)
 
 -- One lawful history of the plain page map, in which thread 1 does what its commands say, each call once and in order, and the runner's one call comes last.
 -- Without a fault that call leaves no page dirty.
@@ -75,7 +76,7 @@ pub record IsRunOf (o : Opening) (commands : List Command) (fault : Option Fault
   pub closed : answers_of 0 trail.events ≡ close ∷ []
   pub closing_is : IsEntryOf (closing_of fault written) close
   pub last : (rest : List Event) × (reverse trail.events ≡ close ∷ rest)
-  pub others : AreOurs (reverse trail.events)
+  pub others : AreOfOneThread (reverse trail.events)
   pub clean : fault ≡ None → dirty (entries (reverse trail.events)) ≡ []
 
 -- what a shelf tells of the disk and the log that it hands out
@@ -114,6 +115,8 @@ IsValuedPage was (Some c) p bytes = IsPage p bytes c
 -- What the disk holds behind a trail, for each page of its spaces; where the closing flush did not fail, that is what the trail says.
 pub record IsDiskOf (size : ℕ) (base : PageId → Option Content) (pages : ℕ → ℕ) (was now : PageId → Option (List ℕ)) (fault : Option FaultAt) (h : List Entry) : Type 0 where
   pub saved : (p : PageId) → p.page < pages p.space → IfSome (now p) (λ bytes. IsSavedPage (is_written h p) (was p) (saved size base h p) p bytes)
+  -- only a page that is dirty may have become untold, by a write that failed
+  pub told : (p : PageId) → p.page < pages p.space → is_dirty h p ≡ false → IsSome (was p) → IsSome (now p)
   pub whole : fault ≡ None → (p : PageId) → p.page < pages p.space → IfSome (now p) (λ bytes. IsValuedPage (was p) (value size base h p) p bytes)
 
 -- the log keeps the record of a change at its start LSN; the log file's first byte has this LSN
@@ -139,9 +142,36 @@ IsKeptKind lsn told (kind.Unwatch p) = ⊤
 IsKeptKind lsn told (kind.Dump pct ids) = ⊤
 IsKeptKind lsn told (kind.Refused asked why) = ⊤
 
-abbrev pub AreKept : ℕ → Option Told → List Entry → Type 0
-AreKept lsn told [] = ⊤
-AreKept lsn told (e ∷ h) = IsKeptKind lsn told e.kind × AreKept lsn told h
+abbrev pub KeepsRecords : ℕ → Option Told → List Entry → Type 0
+KeepsRecords lsn told [] = ⊤
+KeepsRecords lsn told (e ∷ h) = IsKeptKind lsn told e.kind × KeepsRecords lsn told h
+
+-- and so where the record ends at the log's durable mark or below it
+abbrev pub IsKeptBelow : ℕ → ℕ → Option Told → Kind → Type 0
+IsKeptBelow lsn durable told (kind.Load p f) = ⊤
+IsKeptBelow lsn durable told (kind.Fix p f clock now) = ⊤
+IsKeptBelow lsn durable told (kind.Create p f start end now) = end ≤ durable → IsKeptAt lsn (record_of (create_change p) start) start told
+IsKeptBelow lsn durable told (kind.Put p at bytes start end) = end ≤ durable → IsKeptAt lsn (record_of (put_change p at bytes) start) start told
+IsKeptBelow lsn durable told (kind.Evict p f passed) = ⊤
+IsKeptBelow lsn durable told (kind.Write p newest upto) = ⊤
+IsKeptBelow lsn durable told (kind.Move p from to) = ⊤
+IsKeptBelow lsn durable told (kind.Withdraw from) = ⊤
+IsKeptBelow lsn durable told (kind.Undo from) = ⊤
+IsKeptBelow lsn durable told (kind.Shrink chunks) = ⊤
+IsKeptBelow lsn durable told (kind.Grow chunks) = ⊤
+IsKeptBelow lsn durable told (kind.Resize bytes chunks) = ⊤
+IsKeptBelow lsn durable told (kind.Clean written skipped) = ⊤
+IsKeptBelow lsn durable told (kind.Check at) = ⊤
+IsKeptBelow lsn durable told (kind.WatchSet p) = ⊤
+IsKeptBelow lsn durable told (kind.WatchAt p f) = ⊤
+IsKeptBelow lsn durable told (kind.Occurred p arrived) = ⊤
+IsKeptBelow lsn durable told (kind.Unwatch p) = ⊤
+IsKeptBelow lsn durable told (kind.Dump pct ids) = ⊤
+IsKeptBelow lsn durable told (kind.Refused asked why) = ⊤
+
+abbrev pub KeepsRecordsBelow : ℕ → ℕ → Option Told → List Entry → Type 0
+KeepsRecordsBelow lsn durable told [] = ⊤
+KeepsRecordsBelow lsn durable told (e ∷ h) = IsKeptBelow lsn durable told e.kind × KeepsRecordsBelow lsn durable told h
 
 -- no refusal names an end of the log behind this one
 abbrev pub EndsCause : ℕ → Cause → Type 0
@@ -198,12 +228,17 @@ EndsBehind end (e ∷ h) = EndsKind end e.kind × EndsBehind end h
 abbrev pub IsExtended : Option Told → Option Told → Type 0
 IsExtended was now = IfSome was (λ s. IsSomeAnd now (λ t. (more : List ℕ) × (t.kept ≡ s.kept ++ more)))
 
--- What the log holds behind a trail: its end is behind each change and each end that the trail names; where the closing flush did not fail, the log keeps the record of each change.
+-- What the log holds behind a trail: its end is behind each change and each end that the trail names, it is durable up to where each write says, what it keeps ends at its
+-- durable mark, and it keeps the record of each change that ends there or before; where the closing flush did not fail, it is durable up to its end and keeps each change.
 pub record IsLogOf {R : Type 0} (lsn : ℕ) (was : Option Told) (report : Reports R) (log : RedoEnd R) (fault : Option FaultAt) (h : List Entry) : Type 0 where
   pub ends : EndsBehind log.end h
   pub durable : log.durable ≤ log.end
+  pub marks : AreDurable log.durable h
+  pub whole : fault ≡ None → log.durable ≡ log.end
+  pub long : IfSome was (λ s. IsSomeAnd (report.told log.disk) (λ t. lsn + length t.kept ≡ log.durable))
   pub extended : IsExtended was (report.told log.disk)
-  pub kept : fault ≡ None → AreKept lsn (report.told log.disk) h
+  pub settled : KeepsRecordsBelow lsn log.durable (report.told log.disk) h
+  pub kept : fault ≡ None → KeepsRecords lsn (report.told log.disk) h
 
 abbrev pub is_refused_kind : Kind → Bool
 is_refused_kind (kind.Refused asked why) = true
@@ -312,6 +347,7 @@ pub record IsAskedOnce (left : Option (List ℕ)) (now : Asked) : Type 0 where
 pub record IsClosed {D : Type 0} (old new : State D) (fault : Option FaultAt) : Type 0 where
   pub written : ℕ
   pub cleaned : IsCleanedBy old new (record { pass = 0; number = 1 }) written (closing_of fault written)
+  pub most : written ≤ 16384
   pub clean : fault ≡ None → dirty new.history ≡ []
 
 -- the count of faults of the device that failed rose so in the flush; the disk's and the log's were and are so

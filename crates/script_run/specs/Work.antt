@@ -31,8 +31,10 @@ use Rattle.desk.specs.Logged.{IsLogged}
 use Rattle.desk.specs.declared.calls.Granted.{Granted}
 use Rattle.desk.specs.declared.calls.FixErr.{FixErr}
 use Rattle.desk.specs.declared.calls.FixErr.TheVariants as refusal
+use Rattle.desk.specs.declared.calls.CreateErr.{CreateErr}
+use Rattle.desk.specs.declared.calls.CreateErr.TheVariants as unmade
 use Rattle.script_text.specs.declared.script.Command.{Command}
-use Rattle.script_run.specs.Todo.{Answers, Todo, GivesBack}
+use Rattle.script_run.specs.Todo.{Answers, GoesOn, Todo, GivesBack}
 use Rattle.script_run.specs.Openings.{Start, opened_of, AreFaultsWithin}
 
 -- a worker: its pass, the number of its next call, the fixes that it holds and its receipts, both with the newest first
@@ -95,8 +97,8 @@ abbrev pub StandsBehind : {D : Type 0} → Senses D → Opening → Start → St
 StandsBehind sense o start desk frames = IfSome o.base (λ base. IsBehindIt sense (opened_of o start base) desk frames)
 
 -- the worker after an answer by an entry
-abbrev pub answered : Working → Kind → Working
-answered w k = record w { next = w.next + 1; fixed = held_after_kind w.next k w.fixed }
+abbrev pub with_answer : Working → Kind → Working
+with_answer w k = record w { next = w.next + 1; fixed = held_after_kind w.next k w.fixed }
 
 -- the worker after a receipt at this place that gives no fix back
 abbrev pub noted_at : ℕ → Working → Note → Working
@@ -107,8 +109,8 @@ abbrev pub next_receipt : {D : Type 0} → State D → Working → Note → Rece
 next_receipt desk w n = record { place = mark desk.config.first desk.history; caller = w.pass; number = w.next; note = n }
 
 -- the worker after a receipt
-abbrev pub noted : {D : Type 0} → State D → Working → Note → Working
-noted desk w n = record { pass = w.pass; next = w.next + 1; fixed = held_after_note w.next n w.fixed; account = next_receipt desk w n ∷ w.account }
+abbrev pub with_note : {D : Type 0} → State D → Working → Note → Working
+with_note desk w n = record { pass = w.pass; next = w.next + 1; fixed = held_after_note w.next n w.fixed; account = next_receipt desk w n ∷ w.account }
 
 -- A command was done: events that are no answers came, and then its answer.
 pub record Does {D : Type 0} (sense : Senses D) (o : Opening) (start : Start) (desk : State D) (log : Seen) (worker : Working) (past : List Event) (command : Command) : Type 0 where
@@ -116,7 +118,7 @@ pub record Does {D : Type 0} (sense : Senses D) (o : Opening) (start : Start) (d
   pub before : List Event
   pub quiet : filter is_answer before ≡ []
   pub so_far : SoFar sense o start desk log worker (answer ∷ before ++ past) []
-  pub answers : Answers worker.pass command past answer
+  pub answers : (h : List Entry) → GoesOn (answer ∷ before ++ past) h → Answers h worker.pass command past answer
 
 -- each fix that is held is of a page that is in its frame
 abbrev pub AreHoused : List Entry → List Held → Type 0
@@ -160,28 +162,40 @@ abbrev pub HasRange : Option (Option Content) → ℕ → ℕ → Type 0
 HasRange image at len = IsSomeAnd image (λ told. IsSomeAnd told (λ c. IsRange c.bytes at len))
 
 -- the bytes are those of the image, at this range
-abbrev pub IsCopy : Option (Option Content) → ℕ → ℕ → List ℕ → Type 0
-IsCopy image at len bytes = IsSomeAnd image (λ told. IsSomeAnd told (λ c. bytes ≡ slice_range c.bytes at (at + len)))
+abbrev pub IsRangeOf : Option (Option Content) → ℕ → ℕ → List ℕ → Type 0
+IsRangeOf image at len bytes = IsSomeAnd image (λ told. IsSomeAnd told (λ c. bytes ≡ slice_range c.bytes at (at + len)))
 
 -- the answer is a refusal; want of memory is no answer
-abbrev pub IsRefusedFix : Result Granted FixErr → Type 0
-IsRefusedFix (Ok granted) = ⊥
-IsRefusedFix (Err refusal.OutOfMemory) = ⊥
-IsRefusedFix (Err (refusal.NoSuchPage pages)) = ⊤
-IsRefusedFix (Err (refusal.HoldFull held)) = ⊤
-IsRefusedFix (Err (refusal.AllFixed seen)) = ⊤
-IsRefusedFix (Err (refusal.RedoFault before after)) = ⊤
-IsRefusedFix (Err (refusal.DiskFault before after)) = ⊤
-IsRefusedFix (Err (refusal.BadPage bad)) = ⊤
+abbrev pub RefusesFix : Result Granted FixErr → Type 0
+RefusesFix (Ok granted) = ⊥
+RefusesFix (Err refusal.OutOfMemory) = ⊥
+RefusesFix (Err (refusal.NoSuchPage pages)) = ⊤
+RefusesFix (Err (refusal.HoldFull held)) = ⊤
+RefusesFix (Err (refusal.AllFixed seen)) = ⊤
+RefusesFix (Err (refusal.RedoFault before after)) = ⊤
+RefusesFix (Err (refusal.DiskFault before after)) = ⊤
+RefusesFix (Err (refusal.BadPage bad)) = ⊤
+
+-- and of a create
+abbrev pub RefusesCreate : Result Granted CreateErr → Type 0
+RefusesCreate (Ok granted) = ⊥
+RefusesCreate (Err unmade.OutOfMemory) = ⊥
+RefusesCreate (Err (unmade.NoSuchPage pages)) = ⊤
+RefusesCreate (Err (unmade.HoldFull held)) = ⊤
+RefusesCreate (Err (unmade.Resident frame)) = ⊤
+RefusesCreate (Err (unmade.AllFixed seen)) = ⊤
+RefusesCreate (Err (unmade.RedoFault before after)) = ⊤
+RefusesCreate (Err (unmade.DiskFault before after)) = ⊤
+RefusesCreate (Err (unmade.LogSpent end)) = ⊤
 
 -- a fix of the frame was given back
 abbrev pub given_at : Plain → ℕ → Plain
 given_at p f = record (unheld_at p f) { visit = None }
 
--- So many commands led from the one desk, its frames, log and worker to the other: what the next one's conditions ask.
+-- So many commands led from the one desk, its frames, log and worker to the other: what the next one's conditions ask. A clean has the most entries.
 pub record Along {D : Type 0} (sense : Senses D) (n : ℕ) (old new : State D) (before after : Plain) (was is : Seen) (w v : Working) : Type 0 where
   pub left : LeavesDesk sense.size sense.tells sense.spaces sense.faults old new
-  pub grown : length new.history ≤ length old.history + 4 * n
+  pub grown : length new.history ≤ length old.history + 16385 * n
   pub pass : v.pass ≡ w.pass
   pub next : v.next ≡ w.next + n
   pub ready : IsReady sense old before w.fixed → IsReady sense new after v.fixed
@@ -196,7 +210,7 @@ pub record Progress {D : Type 0} (sense : Senses D) (o : Opening) (start : Start
   pub so_far : SoFar sense o start desk log worker (more ++ past) []
   pub done_are : filter is_answer more ≡ done
   pub held : held_by (more ++ past) worker.pass ≡ held_by (done ++ past) worker.pass
-  pub left : (h : List Entry) (tail : List Event) → Todo h worker.pass rest (done ++ past) tail → Todo h worker.pass commands past (reverse done ++ tail)
+  pub left : (h : List Entry) (tail : List Event) → GoesOn (more ++ past) h → Todo h worker.pass rest (done ++ past) tail → Todo h worker.pass commands past (reverse done ++ tail)
 
 -- All commands were done, and what is still held has to be given back.
 pub record Ending {D : Type 0} (sense : Senses D) (o : Opening) (start : Start) (desk : State D) (log : Seen) (worker : Working) (past : List Event) (commands : List Command) : Type 0 where
@@ -204,11 +218,11 @@ pub record Ending {D : Type 0} (sense : Senses D) (o : Opening) (start : Start) 
   pub done : List Event
   pub so_far : SoFar sense o start desk log worker (more ++ past) []
   pub done_are : filter is_answer more ≡ done
-  pub left : (h : List Entry) (tail : List Event) → GivesBack worker.fixed tail → Todo h worker.pass commands past (reverse done ++ tail)
+  pub left : (h : List Entry) (tail : List Event) → GoesOn (more ++ past) h → GivesBack worker.fixed tail → Todo h worker.pass commands past (reverse done ++ tail)
 
 -- The thread is done: its answers are those of its commands, and it holds nothing.
 pub record Worked {D : Type 0} (sense : Senses D) (o : Opening) (start : Start) (desk : State D) (log : Seen) (worker : Working) (past : List Event) (commands : List Command) : Type 0 where
   pub more : List Event
   pub so_far : SoFar sense o start desk log worker (more ++ past) []
   pub none : worker.fixed ≡ []
-  pub todo : (h : List Entry) → Todo h worker.pass commands past (reverse (filter is_answer more))
+  pub todo : (h : List Entry) → GoesOn (more ++ past) h → Todo h worker.pass commands past (reverse (filter is_answer more))

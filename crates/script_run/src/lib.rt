@@ -4,6 +4,7 @@
 //! Knows nothing of files or streams but the traits of the outside.
 #![tactic(auto)]
 
+pub mod creates;
 pub mod ends;
 pub mod outcome;
 pub mod runner;
@@ -11,6 +12,3 @@ pub mod worker;
 
 pub use outcome::Outcome;
 pub use runner::run;
-
-#[cfg(test)]
-mod tests;

@@ -8,7 +8,7 @@ ghost use Rattle.page_disk.specs.declared.shelf.FaultAt.{FaultAt};
 ghost use Rattle.redo_mark.specs.Device.{IsAsOpened};
 ghost use Rattle.redo_mark.specs.Logs.{IsLater, IsKept};
 ghost use Rattle.trail.specs.Spelling.{trail_text};
-ghost use Rattle.trail.specs.Dirt.{log_end};
+ghost use Rattle.trail.specs.Dirt.{dirty, log_end};
 ghost use Rattle.desk.specs.Base.{Opened};
 ghost use Rattle.desk.specs.Logged.{IsLogged};
 ghost use Rattle.script_text.specs.Plan.{Plan, commands_of};
@@ -22,7 +22,7 @@ ghost use Rattle.script_run.specs.Runs.{IsWritten, IsWrittenInPart, AreRun, IsAs
 use crate::ends::{ReadErr, read_all, write_all};
 use crate::outcome::{Outcome, bare};
 use crate::worker::Worker;
-use desk::{Caller, CleanErr, Desk, clean_disk_holds_the_values};
+use desk::{Caller, CleanErr, Desk, clean_disk_holds_the_values, dirty_pages_are_few};
 use frame_words::PlainFrames;
 use page_disk::{FaultAt, PageDisk, Shelf, Sink, Source};
 use page_ids::OutOfMemory;
@@ -84,7 +84,7 @@ fn close<D: PageDisk, R: RedoDisk>(
     frames: &mut PlainFrames,
     redo: &mut Redo<R>,
 ) -> Result<Option<FaultAt>, OutOfMemory>
-    requires places { desk.old.state.config.first + 2 * length desk.old.state.history + 1 < 2 ^ 48 }
+    requires places { desk.old.state.config.first + length desk.old.state.history + length (dirty desk.old.state.history) + 1 < 2 ^ 48 }
     requires ready { IsReady (senses D.page_size D.tells D.told D.space_pages D.fault_count) desk.old.state frames.old [] }
     requires frames { desk.old.state.config.frames ≤ 8192 }
     requires known { log_end desk.old.state.history ≤ redo.old.seen.end }
@@ -100,6 +100,7 @@ fn close<D: PageDisk, R: RedoDisk>(
     ensures behind { (o : Opened) → IsBehindIt (senses D.page_size D.tells D.told D.space_pages D.fault_count) o desk.old.state frames.old
         → IsBehindIt (senses D.page_size D.tells D.told D.space_pages D.fault_count) o desk.new.state frames.new }
     ensures synced { IfOk result (λ fault. fault ≡ None → IsTrue (D.synced desk.new.state.disk)) }
+    ensures whole { IfOk result (λ fault. fault ≡ None → redo.new.seen.durable ≡ redo.new.seen.end) }
 {
     dirty_pages_are_apart();
     let by = Caller { pass: 0, number: 1 };
@@ -141,6 +142,7 @@ fn run_on<D: PageDisk, R: RedoDisk>(
     let mut frames = desk.blank_frames(alloc)?;
     let mut worker = Worker::new(alloc, 1);
     worker.work(alloc, &mut desk, &mut frames, &mut redo, script.commands())?;
+    dirty_pages_are_few();
     let fault = close(&mut desk, &mut frames, &mut redo)?;
     let (disk, history) = desk.end();
     let redo = redo.close();

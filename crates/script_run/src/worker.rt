@@ -4,7 +4,7 @@ ghost use Rattle.std.specs.List.{AllByRecursion};
 ghost use Rattle.trail.specs.Calls.{newest_of};
 ghost use Rattle.trail.specs.Opening.{Opening};
 ghost use Rattle.trail.specs.declared.event.Event.{Event};
-ghost use Rattle.frame_words.specs.Plain.{held_of};
+ghost use Rattle.frame_words.specs.Plain.{Plain, held_of};
 ghost use Rattle.desk.specs.Steps.{row_in};
 ghost use Rattle.script_text.specs.Within.{IsInRange};
 ghost use Rattle.redo_mark.specs.Logs.{Seen, IsLater};
@@ -12,25 +12,25 @@ ghost use Rattle.trail.specs.Dirt.{log_end};
 ghost use Rattle.desk.specs.Base.{Opened};
 ghost use Rattle.desk.specs.Changes.{LeavesDesk};
 ghost use Rattle.script_run.specs.Openings.{Start};
-ghost use Rattle.script_run.specs.Work.{senses, SoFar, StandsBehind, IsBehindIt, Does, noted_at, Along, IsReady, IsAtRest, HasRange, IsCopy, IsRefusedFix, given_at, Progress, Ending, Worked};
+ghost use Rattle.script_run.specs.Work.{senses, SoFar, StandsBehind, IsBehindIt, Does, noted_at, Along, IsReady, IsAtRest, HasRange, IsRangeOf, RefusesFix, given_at, Progress, Ending, Worked};
 ghost use Rattle.script_run.specs.Workers.{working};
 
-use desk::{Caller, Desk, FixErr, Granted, PutErr};
+use desk::{CallErr, Caller, CleanErr, Desk, FixErr, Granted, PutErr, dirty_pages_are_few};
 use frame_words::{Frames, PlainFrames};
 use page_disk::PageDisk;
 use page_ids::{Bytes, OutOfMemory, PageId};
 use redo_mark::{Redo, RedoDisk};
 use script_text::script::Command;
 use std::alloc::Global;
-use trail::{Call, Cause, Held, Note, Receipt};
+use trail::{Call, Cause, Held, Note, Receipt, dirty_pages_are_apart};
 
 /// What a thread has done so far.
 #[derive(Drop)]
 pub struct Worker {
-    pass: u32,
-    next: u32,
+    pub(crate) pass: u32,
+    pub(crate) next: u32,
     /// The open fixes, the newest last.
-    fixed: Vec<Held>,
+    pub(crate) fixed: Vec<Held>,
     /// The receipts, the newest last.
     account: Vec<Receipt>,
 }
@@ -47,7 +47,7 @@ fn copied(
     requires range { HasRange (row_in frames.old.rows frame).image at len }
     ensures frames { frames.new ≡ frames.old }
     ensures long { IfOk result (λ r. length r.0 ≡ len) }
-    ensures bytes { IfOk result (λ r. IsCopy (row_in frames.old.rows frame).image at len r.0) }
+    ensures bytes { IfOk result (λ r. IsRangeOf (row_in frames.old.rows frame).image at len r.0) }
     ensures clock { IfOk result (λ r. r.1 ≡ (row_in frames.old.rows frame).clock) }
 {
     let mut bytes = vec![in alloc; 0; len as usize]?;
@@ -62,7 +62,7 @@ fn copied(
 /// The grant in the answer of a fix; none where it was refused. Want of memory is no answer.
 fn grant_in(answer: Result<Granted, FixErr>) -> Result<Option<Granted>, OutOfMemory>
     ensures granted { IfOk result (λ granted. IfSome granted (λ grant. answer ≡ Ok grant)) }
-    ensures refused { IfOk result (λ granted. granted ≡ None → IsRefusedFix answer) }
+    ensures refused { IfOk result (λ granted. granted ≡ None → RefusesFix answer) }
 {
     match answer {
         Ok(granted) => Ok(Some(granted)),
@@ -332,6 +332,79 @@ impl Worker {
         }
     }
 
+    /// Writes dirty pages, the oldest first, at most so many. A refusal is an answer too.
+    fn clean<D: PageDisk, R: RedoDisk>(
+        &mut self,
+        desk: &mut Desk<D>,
+        frames: &mut PlainFrames,
+        redo: &mut Redo<R>,
+        bound: u32,
+    ) -> Result<(), OutOfMemory>
+        requires places { desk.old.state.config.first + 2 * length desk.old.state.history + 4 < 2 ^ 48 }
+        requires number { self.old.next + 1 < 2 ^ 32 }
+        requires ready { IsReady (senses D.page_size D.tells D.told D.space_pages D.fault_count) desk.old.state frames.old (reverse self.old.fixed.items) }
+        requires range { IsInRange desk.old.state.config.page (Command.Clean bound) }
+        requires known { log_end desk.old.state.history ≤ redo.old.seen.end }
+        ensures along { OnOk result (Along (senses D.page_size D.tells D.told D.space_pages D.fault_count) 1
+            desk.old.state desk.new.state frames.old frames.new redo.old.seen redo.new.seen (working self.old) (working self.new)) }
+        ensures done { OnOk result ((o : Opening) (start : Start) (past : List Event)
+            → SoFar (senses D.page_size D.tells D.told D.space_pages D.fault_count) o start desk.old.state redo.old.seen (working self.old) past []
+            → Does (senses D.page_size D.tells D.told D.space_pages D.fault_count) o start desk.new.state redo.new.seen (working self.new) past (Command.Clean bound)) }
+        ensures opening { redo.new.opening ≡ redo.old.opening }
+    {
+        dirty_pages_are_few();
+        dirty_pages_are_apart();
+        let number = self.next;
+        let by = Caller {
+            pass: self.pass,
+            number,
+        };
+        match desk.clean_at(frames, redo, by, bound, false) {
+            Ok(_) => {
+                self.next = number + 1;
+                Ok(())
+            }
+            Err(CleanErr::OutOfMemory) => Err(OutOfMemory),
+            Err(CleanErr::RedoFault { .. }) => {
+                self.next = number + 1;
+                Ok(())
+            }
+            Err(CleanErr::DiskFault { .. }) => {
+                self.next = number + 1;
+                Ok(())
+            }
+        }
+    }
+
+    /// Asks from where a redo would have to begin.
+    fn checkpoint<D: PageDisk, R: RedoDisk>(
+        &mut self,
+        desk: &mut Desk<D>,
+        redo: &Redo<R>,
+    ) -> Result<(), OutOfMemory>
+        requires places { desk.old.state.config.first + length desk.old.state.history + 1 < 2 ^ 48 }
+        requires number { self.old.next + 1 < 2 ^ 32 }
+        requires known { log_end desk.old.state.history ≤ redo.now.seen.end }
+        ensures along { OnOk result ((frames : Plain) → Along (senses D.page_size D.tells D.told D.space_pages D.fault_count) 1
+            desk.old.state desk.new.state frames frames redo.now.seen redo.now.seen (working self.old) (working self.new)) }
+        ensures done { OnOk result ((o : Opening) (start : Start) (past : List Event)
+            → SoFar (senses D.page_size D.tells D.told D.space_pages D.fault_count) o start desk.old.state redo.now.seen (working self.old) past []
+            → Does (senses D.page_size D.tells D.told D.space_pages D.fault_count) o start desk.new.state redo.now.seen (working self.new) past Command.Checkpoint) }
+    {
+        let number = self.next;
+        let by = Caller {
+            pass: self.pass,
+            number,
+        };
+        match desk.check_at(redo, by) {
+            Ok(_) => {
+                self.next = number + 1;
+                Ok(())
+            }
+            Err(CallErr::OutOfMemory) => Err(OutOfMemory),
+        }
+    }
+
     /// Does one command.
     fn step<D: PageDisk, R: RedoDisk>(
         &mut self,
@@ -341,7 +414,7 @@ impl Worker {
         redo: &mut Redo<R>,
         command: &Command,
     ) -> Result<(), OutOfMemory>
-        requires places { desk.old.state.config.first + length desk.old.state.history + 4 < 2 ^ 48 }
+        requires places { desk.old.state.config.first + 2 * length desk.old.state.history + 4 < 2 ^ 48 }
         requires number { self.old.next + 1 < 2 ^ 32 }
         requires ready { IsReady (senses D.page_size D.tells D.told D.space_pages D.fault_count) desk.old.state frames.old (reverse self.old.fixed.items) }
         requires range { IsInRange desk.old.state.config.page command.now }
@@ -356,6 +429,7 @@ impl Worker {
     {
         match command {
             Command::Fix { page, now } => self.fix(desk, frames, redo, *page, *now),
+            Command::Create { page, now } => self.create(desk, frames, redo, *page, *now),
             Command::Read { page, at, len } => self.read(alloc, desk, frames, *page, *at, *len),
             Command::Put { page, at, bytes } => self.put(
                 desk,
@@ -366,6 +440,8 @@ impl Worker {
                 bytes.as_slice(),
             ),
             Command::Unfix { page } => self.unfix(desk, frames, *page),
+            Command::Clean { bound } => self.clean(desk, frames, redo, *bound),
+            Command::Checkpoint => self.checkpoint(desk, redo),
         }
     }
 
@@ -378,7 +454,7 @@ impl Worker {
         redo: &mut Redo<R>,
         commands: &[Command],
     ) -> Result<(), OutOfMemory>
-        requires places { desk.old.state.config.first + length desk.old.state.history + 4 * length commands.now < 2 ^ 48 }
+        requires places { desk.old.state.config.first + 2 * length desk.old.state.history + 32770 * length commands.now < 2 ^ 48 }
         requires number { self.old.next + length commands.now < 2 ^ 32 }
         requires ready { IsReady (senses D.page_size D.tells D.told D.space_pages D.fault_count) desk.old.state frames.old (reverse self.old.fixed.items) }
         requires ranges { AllByRecursion (IsInRange desk.old.state.config.page) commands.now }
@@ -461,14 +537,14 @@ impl Worker {
         redo: &mut Redo<R>,
         commands: &[Command],
     ) -> Result<(), OutOfMemory>
-        requires places { desk.old.state.config.first + length desk.old.state.history + 4 * length commands.now < 2 ^ 48 }
+        requires places { desk.old.state.config.first + 2 * length desk.old.state.history + 32770 * length commands.now < 2 ^ 48 }
         requires number { self.old.next + length commands.now + 64 < 2 ^ 32 }
         requires new { length self.old.fixed.items ≡ 0 }
         requires ready { IsReady (senses D.page_size D.tells D.told D.space_pages D.fault_count) desk.old.state frames.old (reverse self.old.fixed.items) }
         requires ranges { AllByRecursion (IsInRange desk.old.state.config.page) commands.now }
         requires known { log_end desk.old.state.history ≤ redo.old.seen.end }
         ensures left { OnOk result (LeavesDesk D.page_size D.tells D.space_pages D.fault_count desk.old.state desk.new.state) }
-        ensures grown { OnOk result (length desk.new.state.history ≤ length desk.old.state.history + 4 * length commands.now) }
+        ensures grown { OnOk result (length desk.new.state.history ≤ length desk.old.state.history + 16385 * length commands.now) }
         ensures ready { OnOk result (IsReady (senses D.page_size D.tells D.told D.space_pages D.fault_count) desk.new.state frames.new []) }
         ensures behind { OnOk result ((o : Opened) → IsBehindIt (senses D.page_size D.tells D.told D.space_pages D.fault_count) o desk.old.state frames.old
             → IsBehindIt (senses D.page_size D.tells D.told D.space_pages D.fault_count) o desk.new.state frames.new) }

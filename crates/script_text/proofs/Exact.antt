@@ -11,12 +11,12 @@ use Rattle.std.proofs.lemmas.List.Splits.{join_with_byte-slice_split}
 use Rattle.page_ids.specs.Spelling.{page_text, hex}
 use Rattle.page_ids.specs.declared.ids.PageId.{PageId}
 use Rattle.script_text.specs.Text.{command_words, item_words, setting_name, is_nothing, IsPageId, IsTyped, IsTypedItem, IsSpelled}
-use Rattle.script_text.specs.Reading.{number_of, cut_at, page_of, hex_of, keyword_text, found, keywords, keyword_of, one, two, three, fix_of, read_of, put_of, unfix_of, thread_of, set_of, said_by, words_say, line_says}
+use Rattle.script_text.specs.Reading.{number_of, cut_at, page_of, hex_of, keyword_text, found, keywords, keyword_of, one, two, three, fix_of, create_of, read_of, put_of, unfix_of, clean_of, checkpoint_of, thread_of, set_of, said_by, words_say, line_says}
 use Rattle.script_text.proofs.Numbers.{number_of-decimal, number_is}
 use Rattle.script_text.proofs.Hex.{hex_read, hex_is, hex_lacks}
 use Rattle.script_text.proofs.Cuts.{Lacks, decimal_lacks, words_joined, cut_here, cut_is}
 use Rattle.script_text.specs.declared.script.Command.{Command}
-use Rattle.script_text.specs.declared.script.Command.TheVariants.{Fix, Read, Put, Unfix}
+use Rattle.script_text.specs.declared.script.Command.TheVariants.{Fix, Create, Read, Put, Unfix, Clean, Checkpoint}
 use Rattle.script_text.specs.declared.lines.Setting.{Setting}
 use Rattle.script_text.specs.declared.lines.Setting.TheVariants.{Page, Frames, Size, Max, OldPct, OldTime, OldMin, Lsn}
 use Rattle.script_text.specs.declared.lines.Item.{Item}
@@ -134,6 +134,14 @@ fix_words args i e = two_some _ args i e (λ p t shape e1. option_and_then_some 
     let words : args ≡ page_text page ∷ decimal now ∷ [] = simp (shape, a.0, b.0) in
     subst (λ (j : Item). IsWords j (codes "fix" ∷ args)) same (ap (λ r. codes "fix" ∷ r) words, (a.1, b.1)))))
 
+create_words : (args : List (List ℕ)) (i : Item) → create_of args ≡ Some i → IsWords i (codes "create" ∷ args)
+create_words args i e = two_some _ args i e (λ p t shape e1. option_and_then_some _ (page_of p) i e1 (λ page pe e2. option_and_then_some _ (number_of (2 ^ 64) t) i e2 (λ now te e3.
+    let a = page_is p page pe in
+    let b = number_is (2 ^ 64) now t (lit≤ tt) te in
+    let same : Does (Create page now) ≡ i = cc in
+    let words : args ≡ page_text page ∷ decimal now ∷ [] = simp (shape, a.0, b.0) in
+    subst (λ (j : Item). IsWords j (codes "create" ∷ args)) same (ap (λ r. codes "create" ∷ r) words, (a.1, b.1)))))
+
 read_words : (args : List (List ℕ)) (i : Item) → read_of args ≡ Some i → IsWords i (codes "read" ∷ args)
 read_words args i e = three_some _ args i e (λ p x y shape e1. option_and_then_some _ (page_of p) i e1 (λ page pe e2. option_and_then_some _ (number_of (2 ^ 32) x) i e2 (λ at xe e3. option_and_then_some _ (number_of (2 ^ 32) y) i e3 (λ len ye e4.
     let a = page_is p page pe in
@@ -159,13 +167,27 @@ unfix_words args i e = one_some _ args i e (λ p shape e1. option_and_then_some 
     let words : args ≡ page_text page ∷ [] = simp (shape, a.0) in
     subst (λ (j : Item). IsWords j (codes "unfix" ∷ args)) same (ap (λ r. codes "unfix" ∷ r) words, a.1)))
 
+clean_words : (args : List (List ℕ)) (i : Item) → clean_of args ≡ Some i → IsWords i (codes "clean" ∷ args)
+clean_words args i e = one_some _ args i e (λ n shape e1. option_and_then_some _ (number_of (2 ^ 32) n) i e1 (λ bound ne e2.
+    let a = number_is (2 ^ 32) bound n (lit≤ tt) ne in
+    let same : Does (Clean bound) ≡ i = cc in
+    let words : args ≡ decimal bound ∷ [] = simp (shape, a.0) in
+    subst (λ (j : Item). IsWords j (codes "clean" ∷ args)) same (ap (λ r. codes "clean" ∷ r) words, a.1)))
+
+checkpoint_words : (args : List (List ℕ)) (i : Item) → checkpoint_of args ≡ Some i → IsWords i (codes "checkpoint" ∷ args)
+checkpoint_words [] i e = let same : Does Checkpoint ≡ i = cc in subst (λ (j : Item). IsWords j (codes "checkpoint" ∷ [])) same (refl, tt)
+checkpoint_words (a ∷ others) i e = let bad : ◌≡◌ {A = Option Item} None (Some i) = e in absurd (cc)
+
 said_words : (k : Keyword) (args : List (List ℕ)) (i : Item) → said_by k args ≡ Some i → IsWords i (keyword_text k ∷ args)
 said_words (keyword.Set name) args i e = set_words name args i e
 said_words keyword.Thread args i e = thread_words args i e
 said_words keyword.Fix args i e = fix_words args i e
+said_words keyword.Create args i e = create_words args i e
 said_words keyword.Read args i e = read_words args i e
 said_words keyword.Put args i e = put_words args i e
 said_words keyword.Unfix args i e = unfix_words args i e
+said_words keyword.Clean args i e = clean_words args i e
+said_words keyword.Checkpoint args i e = checkpoint_words args i e
 
 -- what is read is spelled so
 pub read_is_spelled : (line : List ℕ) (i : Item) → line_says line ≡ Some i → IsSpelled i line
@@ -199,12 +221,17 @@ by_words line w ws i something lacks lack says e = let says_something : is_nothi
 command_read : (c : Command) (line : List ℕ) → line ≡ join_with_byte 32 (command_words c) → IsTyped c → line_says line ≡ Some (Does c)
 command_read (Fix p now) line e h = by_words line (codes "fix") (page_text p ∷ decimal now ∷ []) (Does (Fix p now)) refl (literal_lacks (codes "fix") (search rules)) (page_lacks p h.0, (number_lacks now h.1, tt))
     (rw (page_of-text p h.0) (rw (number_of-decimal (2 ^ 64) now h.1 h.1) refl)) e
+command_read (Create p now) line e h = by_words line (codes "create") (page_text p ∷ decimal now ∷ []) (Does (Create p now)) refl (literal_lacks (codes "create") (search rules)) (page_lacks p h.0, (number_lacks now h.1, tt))
+    (rw (page_of-text p h.0) (rw (number_of-decimal (2 ^ 64) now h.1 h.1) refl)) e
 command_read (Read p at len) line e h = by_words line (codes "read") (page_text p ∷ decimal at ∷ decimal len ∷ []) (Does (Read p at len)) refl (literal_lacks (codes "read") (search rules)) (page_lacks p h.0, (number_lacks at (wide _ h.1), (number_lacks len (wide _ h.2), tt)))
     (rw (page_of-text p h.0) (rw (number_of-decimal (2 ^ 32) at (wide _ h.1) h.1) (rw (number_of-decimal (2 ^ 32) len (wide _ h.2) h.2) refl))) e
 command_read (Put p at bytes) line e h = by_words line (codes "put") (page_text p ∷ decimal at ∷ hex bytes ∷ []) (Does (Put p at bytes)) refl (literal_lacks (codes "put") (search rules)) (page_lacks p h.0, (number_lacks at (wide _ h.1), (hex_lacks bytes h.2, tt)))
     (rw (page_of-text p h.0) (rw (number_of-decimal (2 ^ 32) at (wide _ h.1) h.1) (rw (hex_read bytes h.2) refl))) e
 command_read (Unfix p) line e h = by_words line (codes "unfix") (page_text p ∷ []) (Does (Unfix p)) refl (literal_lacks (codes "unfix") (search rules)) (page_lacks p h, tt)
     (rw (page_of-text p h) refl) e
+command_read (Clean bound) line e h = by_words line (codes "clean") (decimal bound ∷ []) (Does (Clean bound)) refl (literal_lacks (codes "clean") (search rules)) (number_lacks bound (wide _ h), tt)
+    (rw (number_of-decimal (2 ^ 32) bound (wide _ h) h) refl) e
+command_read Checkpoint line e h = by_words line (codes "checkpoint") [] (Does Checkpoint) refl (literal_lacks (codes "checkpoint") (search rules)) tt refl e
 
 set_says : (name : Setting) (n : ℕ) → n < 2 ^ 64 → words_say (setting_name name ∷ decimal n ∷ []) ≡ Some (Set name n)
 set_says name n h = rw (setting_found name) (rw (number_of-decimal (2 ^ 64) n h h) refl)

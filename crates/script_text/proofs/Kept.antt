@@ -19,7 +19,7 @@ use Rattle.script_text.specs.Faults.{has_several_chunks, is_faulty}
 use Rattle.script_text.specs.Verdict.{IsScript, plan_of}
 use Rattle.script_text.specs.Within.{IsSettled, IsInRange, IsWithin}
 use Rattle.script_text.specs.declared.script.Command.{Command}
-use Rattle.script_text.specs.declared.script.Command.TheVariants.{Fix, Read, Put, Unfix}
+use Rattle.script_text.specs.declared.script.Command.TheVariants.{Fix, Create, Read, Put, Unfix, Clean, Checkpoint}
 use Rattle.script_text.specs.declared.lines.Setting.{Setting}
 use Rattle.script_text.specs.declared.lines.Setting.TheVariants.{Page, Frames, Size, Max, OldPct, OldTime, OldMin, Lsn}
 use Rattle.script_text.specs.declared.lines.Item.{Item}
@@ -45,9 +45,12 @@ settled c Lsn n r h = record { instances = h.instances; frames = h.frames; size 
 
 in_range : (size : PageSize) (c : Command) → IsTyped c → is_in_range size c ≡ true → IsInRange size c
 in_range size (Fix p now) h r = h
+in_range size (Create p now) h r = h
 in_range size (Read p at len) h r = (h.0, grind (arith, nat_tests), grind (arith, nat_tests), grind (arith, nat_tests), grind (arith, nat_tests))
 in_range size (Put p at bytes) h r = (h.0, grind (arith, nat_tests), grind (arith, nat_tests), grind (arith, nat_tests), grind (arith, nat_tests), h.2)
 in_range size (Unfix p) h r = h
+in_range size (Clean bound) h r = grind (arith, nat_tests)
+in_range size Checkpoint h r = tt
 
 one_more : (size : PageSize) (cs : List Command) (c : Command) → AllByRecursion (IsInRange size) cs → IsInRange size c → AllByRecursion (IsInRange size) (cs ++ c ∷ [])
 one_more size [] c h r = (r, tt)

@@ -7,7 +7,7 @@ use Rattle.page_ids.specs.declared.ids.PageSize.{PageSize}
 use Rattle.page_ids.specs.declared.ids.PageSize.TheVariants.{Kib4, Kib8, Kib16}
 use Rattle.script_text.specs.Text.{IsSpelled}
 use Rattle.script_text.specs.declared.script.Command.{Command}
-use Rattle.script_text.specs.declared.script.Command.TheVariants.{Fix, Read, Put, Unfix}
+use Rattle.script_text.specs.declared.script.Command.TheVariants.{Fix, Create, Read, Put, Unfix, Clean, Checkpoint}
 use Rattle.script_text.specs.declared.lines.Setting.{Setting}
 use Rattle.script_text.specs.declared.lines.Setting.TheVariants.{Page, Frames, Size, Max, OldPct, OldTime, OldMin, Lsn}
 use Rattle.script_text.specs.declared.lines.Item.{Item}
@@ -87,16 +87,22 @@ is_in_body size at len = is_within 1 256 len && nat_le 38 at && nat_le (at + len
 -- the ranges of a command's numbers, for pages of this size
 abbrev pub is_in_range : PageSize → Command → Bool
 is_in_range size (Fix p now) = true
+is_in_range size (Create p now) = true
 is_in_range size (Read p at len) = is_in_body size at len
 is_in_range size (Put p at bytes) = is_in_body size at (length bytes)
 is_in_range size (Unfix p) = true
+is_in_range size (Clean bound) = is_within 0 16384 bound
+is_in_range size Checkpoint = true
 
--- how many calls a command makes
+-- how many calls a command makes, of the one instance that there is
 abbrev pub calls_of : Command → ℕ
 calls_of (Fix p now) = 1
+calls_of (Create p now) = 1
 calls_of (Read p at len) = 1
 calls_of (Put p at bytes) = 1
 calls_of (Unfix p) = 1
+calls_of (Clean bound) = 1
+calls_of Checkpoint = 1
 
 -- how many calls all of them make
 abbrev pub calls_in : List Command → ℕ

@@ -5,7 +5,7 @@ use Rattle.std.specs.List.{slice_split, position_or_len, before_first, after_fir
 use Rattle.std.specs.Option.{option_and_then}
 use Rattle.page_ids.specs.declared.ids.PageId.{PageId}
 use Rattle.script_text.specs.Text.{is_nothing, setting_name}
-use Rattle.script_text.specs.declared.script.Command.TheVariants.{Fix, Read, Put, Unfix}
+use Rattle.script_text.specs.declared.script.Command.TheVariants.{Fix, Create, Read, Put, Unfix, Clean, Checkpoint}
 use Rattle.script_text.specs.declared.lines.Setting.{Setting}
 use Rattle.script_text.specs.declared.lines.Setting.TheVariants.{Page, Frames, Size, Max, OldPct, OldTime, OldMin, Lsn}
 use Rattle.script_text.specs.declared.lines.Item.{Item}
@@ -53,9 +53,12 @@ abbrev pub keyword_text : Keyword → List ℕ
 keyword_text (keyword.Set name) = setting_name name
 keyword_text keyword.Thread = codes "thread"
 keyword_text keyword.Fix = codes "fix"
+keyword_text keyword.Create = codes "create"
 keyword_text keyword.Read = codes "read"
 keyword_text keyword.Put = codes "put"
 keyword_text keyword.Unfix = codes "unfix"
+keyword_text keyword.Clean = codes "clean"
+keyword_text keyword.Checkpoint = codes "checkpoint"
 
 abbrev pub found : List ℕ → List Keyword → Option Keyword
 found w [] = None
@@ -65,7 +68,8 @@ abbrev pub keywords : List Keyword
 keywords =
     keyword.Set Page ∷ keyword.Set Frames ∷ keyword.Set Size ∷ keyword.Set Max
     ∷ keyword.Set OldPct ∷ keyword.Set OldTime ∷ keyword.Set OldMin ∷ keyword.Set Lsn
-    ∷ keyword.Thread ∷ keyword.Fix ∷ keyword.Read ∷ keyword.Put ∷ keyword.Unfix ∷ []
+    ∷ keyword.Thread ∷ keyword.Fix ∷ keyword.Create ∷ keyword.Read ∷ keyword.Put ∷ keyword.Unfix
+    ∷ keyword.Clean ∷ keyword.Checkpoint ∷ []
 
 abbrev pub keyword_of : List ℕ → Option Keyword
 keyword_of w = found w keywords
@@ -93,6 +97,9 @@ thread_of = one (λ k. number_of (2 ^ 64) k >>= λ n. Some (Thread n))
 abbrev pub fix_of : List (List ℕ) → Option Item
 fix_of = two (λ p t. page_of p >>= λ page. number_of (2 ^ 64) t >>= λ now. Some (Does (Fix page now)))
 
+abbrev pub create_of : List (List ℕ) → Option Item
+create_of = two (λ p t. page_of p >>= λ page. number_of (2 ^ 64) t >>= λ now. Some (Does (Create page now)))
+
 abbrev pub read_of : List (List ℕ) → Option Item
 read_of = three (λ p a l. page_of p >>= λ page. number_of (2 ^ 32) a >>= λ at. number_of (2 ^ 32) l >>= λ len. Some (Does (Read page at len)))
 
@@ -102,13 +109,23 @@ put_of = three (λ p a h. page_of p >>= λ page. number_of (2 ^ 32) a >>= λ at.
 abbrev pub unfix_of : List (List ℕ) → Option Item
 unfix_of = one (λ p. page_of p >>= λ page. Some (Does (Unfix page)))
 
+abbrev pub clean_of : List (List ℕ) → Option Item
+clean_of = one (λ n. number_of (2 ^ 32) n >>= λ bound. Some (Does (Clean bound)))
+
+abbrev pub checkpoint_of : List (List ℕ) → Option Item
+checkpoint_of [] = Some (Does Checkpoint)
+checkpoint_of _ = None
+
 abbrev pub said_by : Keyword → List (List ℕ) → Option Item
 said_by (keyword.Set name) args = set_of name args
 said_by keyword.Thread args = thread_of args
 said_by keyword.Fix args = fix_of args
+said_by keyword.Create args = create_of args
 said_by keyword.Read args = read_of args
 said_by keyword.Put args = put_of args
 said_by keyword.Unfix args = unfix_of args
+said_by keyword.Clean args = clean_of args
+said_by keyword.Checkpoint args = checkpoint_of args
 
 abbrev pub words_say : List (List ℕ) → Option Item
 words_say [] = None

@@ -5,7 +5,7 @@ use Rattle.std.specs.List.{AllByRecursion, join_with_byte}
 use Rattle.page_ids.specs.Spelling.{page_text, hex}
 use Rattle.page_ids.specs.declared.ids.PageId.{PageId}
 use Rattle.script_text.specs.declared.script.Command.{Command}
-use Rattle.script_text.specs.declared.script.Command.TheVariants.{Fix, Read, Put, Unfix}
+use Rattle.script_text.specs.declared.script.Command.TheVariants.{Fix, Create, Read, Put, Unfix, Clean, Checkpoint}
 use Rattle.script_text.specs.declared.lines.Setting.{Setting}
 use Rattle.script_text.specs.declared.lines.Setting.TheVariants.{Page, Frames, Size, Max, OldPct, OldTime, OldMin, Lsn}
 use Rattle.script_text.specs.declared.lines.Item.{Item}
@@ -23,9 +23,12 @@ setting_name Lsn = codes "lsn"
 
 abbrev pub command_words : Command → List (List ℕ)
 command_words (Fix p now) = codes "fix" ∷ page_text p ∷ decimal now ∷ []
+command_words (Create p now) = codes "create" ∷ page_text p ∷ decimal now ∷ []
 command_words (Read p at len) = codes "read" ∷ page_text p ∷ decimal at ∷ decimal len ∷ []
 command_words (Put p at bytes) = codes "put" ∷ page_text p ∷ decimal at ∷ hex bytes ∷ []
 command_words (Unfix p) = codes "unfix" ∷ page_text p ∷ []
+command_words (Clean bound) = codes "clean" ∷ decimal bound ∷ []
+command_words Checkpoint = codes "checkpoint" ∷ []
 
 abbrev pub item_words : Item → List (List ℕ)
 item_words Nothing = []
@@ -44,9 +47,12 @@ AreBytes bytes = AllByRecursion (λ b. b < 256) bytes
 -- a command's numbers and bytes fit their types
 abbrev pub IsTyped : Command → Type 0
 IsTyped (Fix p now) = IsPageId p × (now < 2 ^ 64)
+IsTyped (Create p now) = IsPageId p × (now < 2 ^ 64)
 IsTyped (Read p at len) = IsPageId p × (at < 2 ^ 32) × (len < 2 ^ 32)
 IsTyped (Put p at bytes) = IsPageId p × (at < 2 ^ 32) × AreBytes bytes
 IsTyped (Unfix p) = IsPageId p
+IsTyped (Clean bound) = bound < 2 ^ 32
+IsTyped Checkpoint = ⊤
 
 abbrev pub IsTypedItem : Item → Type 0
 IsTypedItem Nothing = ⊤

@@ -1,5 +1,5 @@
 -- The limits that every script keeps.
-use Rattle.std.specs.Prelude.{◌≡◌, ◌+◌, ◌-◌, ◌<◌, ◌≤◌, ◌^◌, length}
+use Rattle.std.specs.Prelude.{◌≡◌, ◌+◌, ◌-◌, ◌<◌, ◌≤◌, ◌^◌, length, ⊤}
 use Rattle.std.specs.List.{AllByRecursion}
 use Rattle.page_ids.specs.Chunks.{chunks_of}
 use Rattle.page_ids.specs.Size.{page_bytes}
@@ -9,7 +9,7 @@ use Rattle.script_text.specs.Plan.{Plan, commands_of}
 use Rattle.script_text.specs.Text.{IsPageId, AreBytes}
 use Rattle.script_text.specs.Grammar.{calls_in}
 use Rattle.script_text.specs.declared.script.Command.{Command}
-use Rattle.script_text.specs.declared.script.Command.TheVariants.{Fix, Read, Put, Unfix}
+use Rattle.script_text.specs.declared.script.Command.TheVariants.{Fix, Create, Read, Put, Unfix, Clean, Checkpoint}
 
 -- the pool's numbers, each in its range
 pub record IsSettled (c : Config) : Type 0 where
@@ -26,11 +26,14 @@ pub record IsSettled (c : Config) : Type 0 where
 -- a command's numbers, each in its range for pages of this size
 abbrev pub IsInRange : PageSize → Command → Type 0
 IsInRange size (Fix p now) = IsPageId p × (now < 2 ^ 64)
+IsInRange size (Create p now) = IsPageId p × (now < 2 ^ 64)
 IsInRange size (Read p at len) = IsPageId p × (1 ≤ len) × (len ≤ 256) × (38 ≤ at) × (at + len ≤ page_bytes size - 8)
 IsInRange size (Put p at bytes) =
     IsPageId p × (1 ≤ length bytes) × (length bytes ≤ 256) × (38 ≤ at) × (at + length bytes ≤ page_bytes size - 8)
     × AreBytes bytes
 IsInRange size (Unfix p) = IsPageId p
+IsInRange size (Clean bound) = bound ≤ 16384
+IsInRange size Checkpoint = ⊤
 
 pub record IsWithin (plan : Plan) : Type 0 where
   pub config : IsSettled plan.config

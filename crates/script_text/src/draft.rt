@@ -134,12 +134,15 @@ fn is_in_range(size: PageSize, command: &Command) -> bool
 {
     match command {
         Command::Fix { .. } => true,
+        Command::Create { .. } => true,
         Command::Read { at, len, .. } => is_in_body(size, *at, u64::from(*len)),
         Command::Put { at, bytes, .. } => {
             let len = bytes.as_slice().len() as u64;
             is_in_body(size, *at, len)
         }
         Command::Unfix { .. } => true,
+        Command::Clean { bound } => *bound <= 16384,
+        Command::Checkpoint => true,
     }
 }
 
@@ -149,9 +152,12 @@ fn calls_of(command: &Command) -> u32
 {
     match command {
         Command::Fix { .. } => 1,
+        Command::Create { .. } => 1,
         Command::Read { .. } => 1,
         Command::Put { .. } => 1,
         Command::Unfix { .. } => 1,
+        Command::Clean { .. } => 1,
+        Command::Checkpoint => 1,
     }
 }
 

@@ -20,4 +20,6 @@ pub use reader::{ScriptErr, read_script};
 pub use script::{Command, Script};
 
 #[cfg(test)]
+mod clean_tests;
+#[cfg(test)]
 mod tests;

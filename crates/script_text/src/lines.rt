@@ -2,7 +2,7 @@
 ghost use Rattle.std.specs.Prelude.{◌≡◌, ◌==◌, map, IfOk};
 ghost use Rattle.std.specs.List.{slice_split};
 ghost use Rattle.script_text.specs.Text.{is_nothing};
-ghost use Rattle.script_text.specs.Reading.{keyword_of, set_of, thread_of, fix_of, read_of, put_of, unfix_of, words_say, line_says};
+ghost use Rattle.script_text.specs.Reading.{keyword_of, set_of, thread_of, fix_of, create_of, read_of, put_of, unfix_of, clean_of, checkpoint_of, words_say, line_says};
 
 use crate::script::Command;
 use crate::words::{bytes, number, number_u32, page};
@@ -37,9 +37,12 @@ pub enum Keyword {
     Set(Setting),
     Thread,
     Fix,
+    Create,
     Read,
     Put,
     Unfix,
+    Clean,
+    Checkpoint,
 }
 
 /// The keyword that a word is.
@@ -66,12 +69,18 @@ fn keyword_of(word: &[u8]) -> Option<Keyword>
         Some(Keyword::Thread)
     } else if word == b"fix".as_slice() {
         Some(Keyword::Fix)
+    } else if word == b"create".as_slice() {
+        Some(Keyword::Create)
     } else if word == b"read".as_slice() {
         Some(Keyword::Read)
     } else if word == b"put".as_slice() {
         Some(Keyword::Put)
     } else if word == b"unfix".as_slice() {
         Some(Keyword::Unfix)
+    } else if word == b"clean".as_slice() {
+        Some(Keyword::Clean)
+    } else if word == b"checkpoint".as_slice() {
+        Some(Keyword::Checkpoint)
     } else {
         None
     }
@@ -109,6 +118,18 @@ fn fix(args: &[&[u8]]) -> Option<Item>
     let page = page(p)?;
     let now = number(u64::MAX, now)?;
     let command = Command::Fix { page, now };
+    Some(Item::Does { command })
+}
+
+fn create(args: &[&[u8]]) -> Option<Item>
+    ensures { result ≡ create_of (map (λ w. w.now) args.now) }
+{
+    let [p, now] = args else {
+        return None;
+    };
+    let page = page(p)?;
+    let now = number(u64::MAX, now)?;
+    let command = Command::Create { page, now };
     Some(Item::Does { command })
 }
 
@@ -155,6 +176,27 @@ fn unfix(args: &[&[u8]]) -> Option<Item>
     Some(Item::Does { command })
 }
 
+fn clean(args: &[&[u8]]) -> Option<Item>
+    ensures { result ≡ clean_of (map (λ w. w.now) args.now) }
+{
+    let [bound] = args else {
+        return None;
+    };
+    let bound = number_u32(bound)?;
+    let command = Command::Clean { bound };
+    Some(Item::Does { command })
+}
+
+fn checkpoint(args: &[&[u8]]) -> Option<Item>
+    ensures { result ≡ checkpoint_of (map (λ w. w.now) args.now) }
+{
+    let [] = args else {
+        return None;
+    };
+    let command = Command::Checkpoint;
+    Some(Item::Does { command })
+}
+
 /// What words say.
 fn said(alloc: Global, words: &[&[u8]]) -> Result<Option<Item>, AllocError>
     ensures { IfOk result (λ found. found ≡ words_say (map (λ w. w.now) words.now)) }
@@ -169,9 +211,12 @@ fn said(alloc: Global, words: &[&[u8]]) -> Result<Option<Item>, AllocError>
         Keyword::Set(setting) => set(setting, args),
         Keyword::Thread => thread(args),
         Keyword::Fix => fix(args),
+        Keyword::Create => create(args),
         Keyword::Read => read(args),
         Keyword::Put => put(alloc, args)?,
         Keyword::Unfix => unfix(args),
+        Keyword::Clean => clean(args),
+        Keyword::Checkpoint => checkpoint(args),
     })
 }
 

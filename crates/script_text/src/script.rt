@@ -10,12 +10,18 @@ use std::marker::Model;
 pub enum Command {
     /// Fixes the page at this moment, in milliseconds.
     Fix { page: PageId, now: u64 },
+    /// Makes the page blank in a frame, whatever the disk has of it, and fixes it at this moment, in milliseconds.
+    Create { page: PageId, now: u64 },
     /// Reads `len` bytes, 1 to 256, from `at` on, within the page's body.
     Read { page: PageId, at: u32, len: u32 },
     /// Writes these bytes, 1 to 256, from `at` on, within the page's body.
     Put { page: PageId, at: u32, bytes: Bytes },
     /// Gives the newest fix of the page back.
     Unfix { page: PageId },
+    /// Writes dirty pages, the one with the oldest change first, until so many are written, at most 16384.
+    Clean { bound: u32 },
+    /// Asks for the LSN of the oldest change that isn't written yet; where each one is, for the log's end.
+    Checkpoint,
 }
 
 /// The numbers of a pool, and what each thread does with it.

@@ -59,7 +59,8 @@ rising_after : (o : Opening) (past : List Event) (c : ℕ) (k : Kind) → IsLega
     → IsRising (log_end_after k (log_end (entries past))) (dirty_after k (dirty (entries past)))
 rising_after o past c (kind.Load q f) legal rising = rising
 rising_after o past c (kind.Fix q f clock now) legal rising = rising
-rising_after o past c (kind.Create q f start end now) legal rising = absurd legal
+rising_after o past c (kind.Create q f start end now) legal rising =
+    let longer : start < end = omega (arith, legal.record_is) in rising_dirtied (log_end (entries past)) q start end (dirty (entries past)) legal.behind longer rising
 rising_after o past c (kind.Put q at bytes start end) legal rising =
     let longer : start < end = omega (arith, legal.record_is) in rising_dirtied (log_end (entries past)) q start end (dirty (entries past)) legal.behind longer rising
 rising_after o past c (kind.Evict q f passed) legal rising = rising
@@ -71,7 +72,7 @@ rising_after o past c (kind.Shrink chunks) legal rising = absurd legal
 rising_after o past c (kind.Grow chunks) legal rising = absurd legal
 rising_after o past c (kind.Resize bytes chunks) legal rising = absurd legal
 rising_after o past c (kind.Clean written skipped) legal rising = rising
-rising_after o past c (kind.Check lsn) legal rising = absurd legal
+rising_after o past c (kind.Check lsn) legal rising = rising
 rising_after o past c (kind.WatchSet q) legal rising = absurd legal
 rising_after o past c (kind.WatchAt q f) legal rising = absurd legal
 rising_after o past c (kind.Occurred q arrived) legal rising = absurd legal

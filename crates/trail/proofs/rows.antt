@@ -25,5 +25,6 @@ pub mod Walks
 pub mod BadVictims
 pub mod DirtyVictims
 pub mod AllFixed
+pub mod Creates
 pub mod Had
 pub mod Alone

@@ -1,6 +1,6 @@
 -- Why calls are refused. The state is that before the event.
 use Rattle.std.specs.Prelude.{ℕ, Bool, true, false, List, ◌≡◌, ◌≢◌, ◌==◌, ◌≤◌, ◌<◌, ◌+◌, ◌^◌, length, Option, None, Some, IfSome, IsSomeAnd, is_none, nat_le, if◌then◌else◌}
-use Rattle.std.specs.Option.{option_or}
+use Rattle.std.specs.Option.{option_or, option_map}
 use Rattle.page_ids.specs.Faults.{Rose}
 use Rattle.page_ids.specs.declared.ids.PageId.{PageId}
 use Rattle.page_ids.specs.declared.layout.BadPage.{BadPage}
@@ -13,10 +13,11 @@ use Rattle.trail.specs.declared.event.Kind.{Kind}
 use Rattle.trail.specs.declared.event.Kind.TheVariants as kind
 use Rattle.trail.specs.declared.event.Note.{Note}
 use Rattle.trail.specs.declared.event.Note.TheVariants as note
+use Rattle.trail.specs.declared.event.Entry.{Entry}
 use Rattle.trail.specs.declared.event.Event.{Event}
 use Rattle.trail.specs.declared.event.Event.TheVariants as event
 use Rattle.trail.specs.Places.{entries}
-use Rattle.trail.specs.History.{disk_faults, log_faults}
+use Rattle.trail.specs.History.{home, disk_faults, log_faults}
 use Rattle.trail.specs.Dirt.{log_end}
 use Rattle.trail.specs.Calls.{held_by, newest_of, granted_call, noted_call}
 use Rattle.trail.specs.Opening.{Opening}
@@ -58,10 +59,14 @@ not_held past c p = if is_none (newest_of (held_by past c) p) then Some cause.Un
 abbrev pub hold_full : List Event → ℕ → Option Cause
 hold_full past c = if length (held_by past c) == 64 then Some (cause.HoldFull 64) else None
 
+-- the page has a home
+abbrev pub resident : List Entry → PageId → Option Cause
+resident h p = option_map (λ f. cause.Resident f) (home h p)
+
 -- The first exact cause that holds of a call of the caller; the calls that are not made so far have none but a page outside its space.
 abbrev pub due : Opening → List Event → ℕ → Call → Option Cause
 due o past c (call.Fix p now) = option_or (outside o p) (hold_full past c)
-due o past c (call.Create p now) = outside o p
+due o past c (call.Create p now) = option_or (outside o p) (option_or (hold_full past c) (resident (entries past) p))
 due o past c (call.Put p at bytes) = not_held past c p
 due o past c (call.Read p at len) = not_held past c p
 due o past c (call.Unfix p) = not_held past c p
@@ -84,6 +89,12 @@ IsOther p (bad.Torn head tail) = head ≢ tail
 abbrev pub fixed_page : Call → Option PageId
 fixed_page (call.Fix p now) = Some p
 fixed_page _ = None
+
+-- the page for which a call asks for a frame
+abbrev pub framed_page : Call → Option PageId
+framed_page (call.Fix p now) = Some p
+framed_page (call.Create p now) = Some p
+framed_page _ = None
 
 -- the bytes of the record that the call would log
 abbrev pub record_bytes : Call → Option ℕ
@@ -112,7 +123,7 @@ Comes o past asked (cause.PlacesSpent mark need) = ⊥
 Comes o past asked (cause.NoSuchPage pages) = ⊥
 Comes o past asked (cause.HoldFull held) = ⊥
 Comes o past asked (cause.Resident f) = ⊥
-Comes o past asked (cause.AllFixed seen) = IsSomeAnd (fixed_page asked) (λ p. AreAllFixed o.config (entries past) p seen)
+Comes o past asked (cause.AllFixed seen) = IsSomeAnd (framed_page asked) (λ p. AreAllFixed o.config (entries past) p seen)
 Comes o past asked (cause.RedoFault before after) = Rose before after × (log_faults (entries past) ≤ before)
 Comes o past asked (cause.DiskFault before after) = Rose before after × (disk_faults (entries past) ≤ before)
 Comes o past asked (cause.BadPage bad) = IsSomeAnd (fixed_page asked) (λ p. IsOther p bad)

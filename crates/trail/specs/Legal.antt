@@ -73,10 +73,15 @@ MayPrecedeUnfixed h made p (cause.DiskFault before after) = (made ≡ []) ⊎ ((
 MayPrecedeUnfixed h made p (cause.BadPage bad) = (made ≡ []) ⊎ ((home h p ≡ None) × IsHad p made)
 MayPrecedeUnfixed h made p why = made ≡ []
 
--- the entries that a refused call may have: a fix those by which it had a frame, a clean its writes, every other call has none so far
+-- the entries that a create may have that was refused so: none, or a frame was had for a page that has no home, and the log had no room for its record
+abbrev pub MayPrecedeUncreated : List Entry → List Kind → PageId → Cause → Type 0
+MayPrecedeUncreated h made p (cause.LogSpent end) = (made ≡ []) ⊎ ((home h p ≡ None) × IsHad p made)
+MayPrecedeUncreated h made p why = made ≡ []
+
+-- the entries that a refused call may have: a fix or a create those by which it had a frame, a clean its writes, every other call has none so far
 abbrev pub MayPrecedeRefusal : List Entry → List Kind → Call → Cause → Type 0
 MayPrecedeRefusal h made (call.Fix p now) why = MayPrecedeUnfixed h made p why
-MayPrecedeRefusal h made (call.Create p now) why = made ≡ []
+MayPrecedeRefusal h made (call.Create p now) why = MayPrecedeUncreated h made p why
 MayPrecedeRefusal h made (call.Put p at bytes) why = made ≡ []
 MayPrecedeRefusal h made (call.Read p at len) why = made ≡ []
 MayPrecedeRefusal h made (call.Unfix p) why = made ≡ []
@@ -90,11 +95,11 @@ MayPrecedeRefusal h made (call.Dump pct) why = made ≡ []
 MayPrecedeRefusal h made (call.Resize bytes rounds) why = made ≡ []
 
 -- Which entries a call may have before this one at this history, the newest first. An answer is judged; what stands before answers is judged with them.
--- A fix may have had a frame and read its page into it, and a clean may have written pages; every other answer comes alone so far.
+-- A fix may have had a frame and read its page into it, a create may have had one, and a clean may have written pages; every other answer comes alone so far.
 abbrev pub MayPrecede : List Entry → List Kind → Kind → Type 0
 MayPrecede h made (kind.Load p f) = ⊤
 MayPrecede h made (kind.Fix p f clock now) = (made ≡ []) ⊎ ((had : List Kind) × (made ≡ kind.Load p f ∷ had) × IsHad p had)
-MayPrecede h made (kind.Create p f start end now) = made ≡ []
+MayPrecede h made (kind.Create p f start end now) = IsHad p made
 MayPrecede h made (kind.Put p at bytes start end) = made ≡ []
 MayPrecede h made (kind.Evict p f passed) = ⊤
 MayPrecede h made (kind.Write p lsn upto) = ⊤
@@ -123,6 +128,13 @@ pub record IsLoad (o : Opening) (past : List Event) (p : PageId) (f : ℕ) : Typ
 pub record IsFix (past : List Event) (p : PageId) (f clock : ℕ) : Type 0 where
   pub resident : home (entries past) p ≡ Some f
   pub unchanged : clock ≡ change (entries past) f
+
+-- a page that has no home is made in the next frame, and the record of that stands in the log behind that of every earlier change
+pub record IsCreate (o : Opening) (past : List Event) (p : PageId) (f start end : ℕ) : Type 0 where
+  pub absent : home (entries past) p ≡ None
+  pub next : next_frame (book o.config (entries past)) ≡ Some f
+  pub behind : log_end (entries past) ≤ start
+  pub record_is : end ≡ start + 21
 
 -- bytes of a page that the caller has fixed were changed, and the record of the change stands in the log behind that of every earlier one
 pub record IsPut (o : Opening) (past : List Event) (c : ℕ) (p : PageId) (at : ℕ) (bytes : List ℕ) (start end : ℕ) : Type 0 where
@@ -157,11 +169,16 @@ pub record IsClean (past : List Event) (c written : ℕ) (skipped : List (ℕ ×
   pub count : written ≡ length (under_way past c)
   pub none_skipped : skipped ≡ []
 
+-- where a redo would have to begin: at the oldest change that isn't on the disk, or where there is none at an end that is behind every change
+abbrev pub IsCheckpoint : List Dirty → ℕ → ℕ → Type 0
+IsCheckpoint [] end lsn = end ≤ lsn
+IsCheckpoint (d ∷ ds) end lsn = lsn ≡ d.oldest
+
 -- Entries of a kind that no call makes so far are not legal. What a write and an evict need stands beside (`IsCovered`, `IsVictim`).
 abbrev pub IsLegalKind : Opening → List Event → ℕ → Kind → Type 0
 IsLegalKind o past c (kind.Load p f) = IsLoad o past p f
 IsLegalKind o past c (kind.Fix p f clock now) = IsFix past p f clock
-IsLegalKind o past c (kind.Create p f start end now) = ⊥
+IsLegalKind o past c (kind.Create p f start end now) = IsCreate o past p f start end
 IsLegalKind o past c (kind.Put p at bytes start end) = IsPut o past c p at bytes start end
 IsLegalKind o past c (kind.Evict p f passed) = ⊤
 IsLegalKind o past c (kind.Write p lsn upto) = ⊤
@@ -172,7 +189,7 @@ IsLegalKind o past c (kind.Shrink chunks) = ⊥
 IsLegalKind o past c (kind.Grow chunks) = ⊥
 IsLegalKind o past c (kind.Resize bytes chunks) = ⊥
 IsLegalKind o past c (kind.Clean written skipped) = IsClean past c written skipped
-IsLegalKind o past c (kind.Check lsn) = ⊥
+IsLegalKind o past c (kind.Check lsn) = IsCheckpoint (dirty (entries past)) (log_end (entries past)) lsn
 IsLegalKind o past c (kind.WatchSet p) = ⊥
 IsLegalKind o past c (kind.WatchAt p f) = ⊥
 IsLegalKind o past c (kind.Occurred p arrived) = ⊥

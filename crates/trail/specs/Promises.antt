@@ -1,6 +1,7 @@
 -- What the calls promise beside the laws: of refusals, and of lists of frames.
-use Rattle.std.specs.Prelude.{ℕ, Bool, true, false, List, [], ◌∷◌, ◌≡◌, None, IsSome, IsTrue, ⊤}
+use Rattle.std.specs.Prelude.{ℕ, Bool, true, false, List, [], ◌∷◌, ◌++◌, ◌≡◌, ◌≤◌, None, IsSome, IsTrue, length, ⊤}
 use Rattle.page_ids.specs.FrameWord.{AreRising}
+use Rattle.page_ids.specs.declared.ids.PageId.{PageId}
 use Rattle.trail.specs.declared.event.Call.{Call}
 use Rattle.trail.specs.declared.event.Call.TheVariants as call
 use Rattle.trail.specs.declared.event.Cause.{Cause}
@@ -13,6 +14,9 @@ use Rattle.trail.specs.declared.event.Event.{Event}
 use Rattle.trail.specs.declared.event.Event.TheVariants as event
 use Rattle.trail.specs.Places.{entries}
 use Rattle.trail.specs.History.{home}
+use Rattle.trail.specs.Dirt.{dirty}
+use Rattle.trail.specs.Calls.{under_way}
+use Rattle.trail.specs.Legal.{before_call, pages_of, written_pages}
 use Rattle.trail.specs.Opening.{Opening, OnValue}
 use Rattle.trail.specs.Causes.{due}
 use Rattle.trail.specs.Alone.{cause_words}
@@ -32,6 +36,13 @@ is_own (call.Fix p now) (cause.AllFixed seen) = true
 is_own (call.Fix p now) (cause.RedoFault before after) = true
 is_own (call.Fix p now) (cause.DiskFault before after) = true
 is_own (call.Fix p now) (cause.BadPage bad) = true
+is_own (call.Create p now) (cause.NoSuchPage pages) = true
+is_own (call.Create p now) (cause.HoldFull held) = true
+is_own (call.Create p now) (cause.Resident f) = true
+is_own (call.Create p now) (cause.AllFixed seen) = true
+is_own (call.Create p now) (cause.RedoFault before after) = true
+is_own (call.Create p now) (cause.DiskFault before after) = true
+is_own (call.Create p now) (cause.LogSpent end) = true
 is_own (call.Put p at bytes) (cause.LogSpent end) = true
 is_own (call.Put p at bytes) cause.Unheld = true
 is_own (call.Read p at len) cause.Unheld = true
@@ -50,12 +61,23 @@ abbrev pub is_noted : Cause → Bool
 is_noted cause.Unheld = true
 is_noted _ = false
 
+-- the pages that a refused clean had written are the first of those that were dirty before it, in their order, and no more than its bound
+pub record IsBegun (past : List Event) (c bound : ℕ) : Type 0 where
+  pub rest : List PageId
+  pub oldest : pages_of (dirty (before_call past c)) ≡ written_pages (under_way past c) ++ rest
+  pub most : length (under_way past c) ≤ bound
+
+abbrev pub IsBegunCall : List Event → ℕ → Call → Type 0
+IsBegunCall past c (call.Clean bound) = IsBegun past c bound
+IsBegunCall past c _ = ⊤
+
 -- a refusal as the calls promise it
 pub record IsFairRefusal (noted : Bool) (o : Opening) (past : List Event) (c : ℕ) (asked : Call) (why : Cause) : Type 0 where
   pub own : IsTrue (is_own asked why)
   pub filed : is_noted why ≡ noted
   pub excused : IsExcused o past c asked why
   pub rising : AreRising (cause_words why)
+  pub begun : IsBegunCall past c asked
 
 -- frames that a list tells rise, each told once
 abbrev pub IsPromisedKind : Opening → List Event → ℕ → Kind → Type 0

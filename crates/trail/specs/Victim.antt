@@ -1,5 +1,5 @@
 -- Which page leaves for another one (buf0lru's `buf_LRU_get_free_block`), and when none can.
-use Rattle.std.specs.Prelude.{ℕ, Bool, true, false, not, List, [], ◌∷◌, ◌++◌, ◌≡◌, ◌==◌, ◌&&◌, ◌*◌, ◌<◌, None, Some, Contains, filter, map, reverse, ⊤, if◌then◌else◌}
+use Rattle.std.specs.Prelude.{ℕ, Bool, true, false, not, List, [], ◌∷◌, ◌++◌, ◌≡◌, ◌==◌, ◌&&◌, ◌*◌, ◌<◌, None, Some, Contains, IsPermutation, filter, map, reverse, ⊤, if◌then◌else◌}
 use Rattle.std.specs.List.{list_any}
 use Rattle.page_ids.specs.Chunks.{rising}
 use Rattle.page_ids.specs.FrameWord.{fixes_of, is_resident, clock_of}
@@ -122,9 +122,9 @@ is_in f fs = list_any (λ g. g == f) fs
 abbrev pub frames_there : ℕ → Book → List ℕ
 frames_there per b = filter (λ f. not (is_in f b.withdrawn)) (rising 0 (b.chunks * per))
 
--- No frame was free, and each one was found with a fix.
+-- No frame was free, and each one was found with a fix: each is told once, in whatever order.
 pub record AreAllFixed (c : Config) (h : List Entry) (p : PageId) (seen : List (ℕ × Word)) : Type 0 where
   pub absent : home h p ≡ None
   pub none_free : (book c h).free ≡ []
-  pub frames : frames_of seen ≡ frames_there c.frames (book c h)
+  pub frames : IsPermutation (frames_there c.frames (book c h)) (frames_of seen)
   pub fixed : AreFixedWords h seen

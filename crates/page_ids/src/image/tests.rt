@@ -63,6 +63,18 @@ fn zeros_are_a_page_of_every_id(rt: HostRuntime) -> Result<(), Fail> {
     Ok(())
 }
 
+#[test]
+fn a_cleared_page_has_zeros_and_the_new_lsn(rt: HostRuntime) -> Result<(), Fail> {
+    let mut image = Image::blank(rt.alloc(), PageSize::Kib4)?;
+    let page = written(7, 0, 8214, 8214);
+    assert_eq!(rt; decode(PAGE, &page, &mut image), Ok(()));
+    image.clear(8213);
+    assert_eq!(rt; image.lsn(), 8213);
+    assert_eq!(rt; image.size(), 4096);
+    assert!(rt; image.bytes.iter().all(|byte| *byte == 0));
+    Ok(())
+}
+
 /// Puts in what is written for the checksums.
 fn put_sums(page: &mut [u8])
     requires { 46 ≤ length page.old }

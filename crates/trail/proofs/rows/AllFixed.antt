@@ -1,5 +1,7 @@
 -- Fixes that are refused because every frame was seen with a fix, or because their caller has too many.
-use Rattle.std.proofs.Common.{◌≡◌, ◌≢◌, ◌<◌, ℕ, zero, suc, List, [], ◌∷◌, ◌+◌, length, inl, refl, arith, ap}
+use Rattle.std.proofs.Common.{◌≡◌, ◌≢◌, ◌<◌, ℕ, zero, suc, List, [], ◌∷◌, ◌+◌, inl, refl, arith}
+use Rattle.std.proofs.lemmas.List.Sorted.{length_permutation, sum_by-IsPermutation, IsPermutation-refl}
+use Rattle.std.specs.Prelude.{IsPermutation}
 use Rattle.page_ids.specs.Content.{Content}
 use Rattle.page_ids.specs.FrameWord.{packed}
 use Rattle.page_ids.specs.declared.frame_word.Word.{Word}
@@ -20,25 +22,48 @@ use Rattle.trail.proofs.rows.Victims.{word, three, four}
 abbrev pub refused_with : List (ℕ × Word) → Event
 refused_with seen = entry 9 1 5 (kind.Refused (call.Fix (page 4) 7) (cause.AllFixed seen))
 
+-- these frames are the four
+abbrev pub AreFour : List ℕ → Type 0
+AreFour frames = IsPermutation (0 ∷ 1 ∷ 2 ∷ 3 ∷ []) frames
+
 -- a frame is left out
 pub one_left_out : (c : Content) → IsCaused (opening (pages_of c)) four (refused_with ((0, word 1 1) ∷ (1, word 1 3) ∷ (3, word 1 7) ∷ [])) → ⊥
-one_left_out c h = let frames : ◌≡◌ {A = List ℕ} (0 ∷ 1 ∷ 3 ∷ []) (0 ∷ 1 ∷ 2 ∷ 3 ∷ []) = h.1.frames in omega (arith, ap length frames)
+one_left_out c h = let frames : AreFour (0 ∷ 1 ∷ 3 ∷ []) = h.1.frames in omega (arith, length_permutation (0 ∷ 1 ∷ 2 ∷ 3 ∷ []) (0 ∷ 1 ∷ 3 ∷ []) frames)
 
 -- the last one
 pub last_left_out : (c : Content) → IsCaused (opening (pages_of c)) four (refused_with ((0, word 1 1) ∷ (1, word 1 3) ∷ (2, word 1 5) ∷ [])) → ⊥
-last_left_out c h = let frames : ◌≡◌ {A = List ℕ} (0 ∷ 1 ∷ 2 ∷ []) (0 ∷ 1 ∷ 2 ∷ 3 ∷ []) = h.1.frames in omega (arith, ap length frames)
+last_left_out c h = let frames : AreFour (0 ∷ 1 ∷ 2 ∷ []) = h.1.frames in omega (arith, length_permutation (0 ∷ 1 ∷ 2 ∷ 3 ∷ []) (0 ∷ 1 ∷ 2 ∷ []) frames)
 
 -- or all
 pub no_word : (c : Content) → IsCaused (opening (pages_of c)) four (refused_with []) → ⊥
-no_word c h = let frames : ◌≡◌ {A = List ℕ} [] (0 ∷ 1 ∷ 2 ∷ 3 ∷ []) = h.1.frames in omega (arith, ap length frames)
+no_word c h = let frames : AreFour [] = h.1.frames in omega (arith, length_permutation (0 ∷ 1 ∷ 2 ∷ 3 ∷ []) [] frames)
 
 -- a frame is told twice
 pub one_twice : (c : Content) → IsCaused (opening (pages_of c)) four (refused_with ((0, word 1 1) ∷ (1, word 1 3) ∷ (2, word 1 5) ∷ (3, word 1 7) ∷ (3, word 1 7) ∷ [])) → ⊥
-one_twice c h = let frames : ◌≡◌ {A = List ℕ} (0 ∷ 1 ∷ 2 ∷ 3 ∷ 3 ∷ []) (0 ∷ 1 ∷ 2 ∷ 3 ∷ []) = h.1.frames in omega (arith, ap length frames)
+one_twice c h = let frames : AreFour (0 ∷ 1 ∷ 2 ∷ 3 ∷ 3 ∷ []) = h.1.frames in omega (arith, length_permutation (0 ∷ 1 ∷ 2 ∷ 3 ∷ []) (0 ∷ 1 ∷ 2 ∷ 3 ∷ 3 ∷ []) frames)
 
--- frames are told in another order
-pub two_turned : (c : Content) → IsCaused (opening (pages_of c)) four (refused_with ((1, word 1 3) ∷ (0, word 1 1) ∷ (2, word 1 5) ∷ (3, word 1 7) ∷ [])) → ⊥
-two_turned c h = let frames : ◌≡◌ {A = List ℕ} (1 ∷ 0 ∷ 2 ∷ 3 ∷ []) (0 ∷ 1 ∷ 2 ∷ 3 ∷ []) = h.1.frames in let first : ◌≡◌ {A = ℕ} 1 0 = cc in omega (arith, first)
+-- or in another one's stead
+pub one_for_another : (c : Content) → IsCaused (opening (pages_of c)) four (refused_with ((0, word 1 1) ∷ (1, word 1 3) ∷ (2, word 1 5) ∷ (2, word 1 5) ∷ [])) → ⊥
+one_for_another c h =
+    let frames : AreFour (0 ∷ 1 ∷ 2 ∷ 2 ∷ []) = h.1.frames in omega (arith, sum_by-IsPermutation (λ (f : ℕ). f) (0 ∷ 1 ∷ 2 ∷ 3 ∷ []) (0 ∷ 1 ∷ 2 ∷ 2 ∷ []) frames)
+
+-- frames may be told in another order
+pub two_turned : (c : Content) → IsCaused (opening (pages_of c)) four (refused_with ((1, word 1 3) ∷ (0, word 1 1) ∷ (2, word 1 5) ∷ (3, word 1 7) ∷ []))
+two_turned c = (
+  refl,
+  record {
+    absent = refl;
+    none_free = refl;
+    frames = record { moves = (0, 1) ∷ []; below = (omega arith, omega arith, tt); is = refl };
+    fixed = (
+      record { resident = refl; clock = refl; fixed = omega arith },
+      (
+        record { resident = refl; clock = refl; fixed = omega arith },
+        (record { resident = refl; clock = refl; fixed = omega arith }, (record { resident = refl; clock = refl; fixed = omega arith }, tt)),
+      ),
+    );
+  },
+)
 
 -- a word has no fixes
 pub no_fixes : (c : Content) → IsCaused (opening (pages_of c)) four (refused_with ((0, word 1 1) ∷ (1, word 1 3) ∷ (2, word 0 5) ∷ (3, word 1 7) ∷ [])) → ⊥
@@ -59,7 +84,7 @@ more_fixes c = (
   record {
     absent = refl;
     none_free = refl;
-    frames = refl;
+    frames = IsPermutation-refl (0 ∷ 1 ∷ 2 ∷ 3 ∷ []);
     fixed = (
       record { resident = refl; clock = refl; fixed = omega arith },
       (

@@ -2,6 +2,7 @@
 use Rattle.std.proofs.Common.{◌≡◌, ◌≢◌, ◌⊎◌, ℕ, Bool, true, false, List, [], ◌∷◌, ◌<◌, Option, None, Some, if◌then◌else◌, inl, inr, refl, arith, ap, sym, ◌∙◌, subst}
 use Rattle.std.specs.List.{AllByRecursion}
 use Rattle.std.proofs.lemmas.Bool.Decides.{nat_tests}
+use Rattle.std.proofs.lemmas.List.Sorted.{IsPermutation-refl}
 use Rattle.page_ids.specs.Content.{Content}
 use Rattle.page_ids.specs.FrameWord.{packed, fixes_of, is_resident, clock_of}
 use Rattle.page_ids.specs.Same.{same_page}
@@ -295,7 +296,7 @@ refused_of_two c n resident clock fixed = record {
   legal = record { place = refl; number = refl; together = inl refl; before = refl; kind = tt };
   still = tt;
   covered = tt;
-  causes = (refl, record { absent = refl; none_free = refl; frames = refl; fixed = (record { resident = resident; clock = clock; fixed = fixed }, tt) });
+  causes = (refl, record { absent = refl; none_free = refl; frames = IsPermutation-refl (0 ∷ []); fixed = (record { resident = resident; clock = clock; fixed = fixed }, tt) });
   victim = tt;
 }
 

@@ -5,6 +5,7 @@ use Rattle.page_ids.specs.Content.{Content}
 use Rattle.page_ids.specs.declared.config.Config.{Config}
 use Rattle.page_ids.specs.declared.ids.PageId.{PageId}
 use Rattle.page_ids.specs.declared.frame_word.Word.{Word}
+use Rattle.page_ids.specs.declared.layout.BadPage.{BadPage}
 use Rattle.trail.specs.declared.event.Call.{Call}
 use Rattle.trail.specs.declared.event.Call.TheVariants as call
 use Rattle.trail.specs.declared.event.Cause.{Cause}
@@ -30,11 +31,10 @@ use Rattle.trail.proofs.rows.Promised.{apart_too}
 nonempty : (k : Kind) (made : List Kind) → k ∷ made ≡ [] → ⊥
 nonempty k made same = absurd (cc)
 
--- the answers, but for those of fixes and cleans, and refusals
+-- the answers, but for those of fixes, creates and cleans, and refusals
 abbrev lone_answers : PageId → ℕ → ℕ → ℕ → List ℕ → List Kind
 lone_answers p f m n bytes =
-    kind.Create p f m n 5
-    ∷ kind.Put p f bytes m n
+    kind.Put p f bytes m n
     ∷ kind.Resize m n
     ∷ kind.Check m
     ∷ kind.WatchSet p
@@ -47,12 +47,16 @@ lone_answers p f m n bytes =
 -- no entry comes before such an answer
 pub answers_alone : (h : List Entry) (p : PageId) (f m n : ℕ) (bytes : List ℕ) (k : Kind) (made : List Kind) → AllByRecursion (λ answer. MayPrecede h (k ∷ made) answer → ⊥) (lone_answers p f m n bytes)
 answers_alone h p f m n bytes k made =
-    let no_entry = nonempty k made in (no_entry, (no_entry, (no_entry, (no_entry, (no_entry, (no_entry, (no_entry, (no_entry, (no_entry, tt)))))))))
+    let no_entry = nonempty k made in (no_entry, (no_entry, (no_entry, (no_entry, (no_entry, (no_entry, (no_entry, (no_entry, tt))))))))
 
 -- the entry before a fix, where there is one, is the load of its page into the frame, and those before that are such by which a frame is had
 pub fix_behind : (h : List Entry) (p : PageId) (f clock now : ℕ) (k : Kind) (made : List Kind) → MayPrecede h (k ∷ made) (kind.Fix p f clock now) → (k ≡ kind.Load p f) × IsHad p made
 fix_behind h p f clock now k made (inl none) = absurd (cc)
 fix_behind h p f clock now k made (inr one) = let same = one.1 in let rest : one.0 ≡ made = cc in (cc, subst (IsHad p) rest one.2)
+
+-- what stands before a create are such entries, too
+pub create_behind : (h : List Entry) (p : PageId) (f start end now : ℕ) (made : List Kind) → MayPrecede h made (kind.Create p f start end now) → IsHad p made
+create_behind h p f start end now made had = had
 
 -- the entries that are no evicts
 abbrev no_evicts : PageId → ℕ → ℕ → ℕ → List ℕ → Call → Cause → List Kind
@@ -96,11 +100,10 @@ had_behind_write p q f passed k made had = by_case had.1
     by_case (inl none) = absurd (cc)
     by_case (inr one) = let same = one.2 in let write : k ≡ kind.Write q one.0 one.1 = cc in (subst (λ k. IsSome (written_page k)) (sym write) refl, cc)
 
--- every call but a clean and a fix
+-- every call but a clean, a fix and a create
 abbrev other_calls : PageId → ℕ → ℕ → List ℕ → List Call
 other_calls p m n bytes =
-    call.Create p n
-    ∷ call.Put p m bytes
+    call.Put p m bytes
     ∷ call.Read p m n
     ∷ call.Unfix p
     ∷ call.Guess p m n
@@ -116,7 +119,7 @@ other_calls p m n bytes =
 pub refusals_alone : (h : List Entry) (p : PageId) (m n : ℕ) (bytes : List ℕ) (why : Cause) (k : Kind) (made : List Kind) → AllByRecursion (λ asked. MayPrecede h (k ∷ made) (kind.Refused asked why) → ⊥) (other_calls p m n bytes)
 refusals_alone h p m n bytes why k made =
     let no_entry = nonempty k made in
-    (no_entry, (no_entry, (no_entry, (no_entry, (no_entry, (no_entry, (no_entry, (no_entry, (no_entry, (no_entry, (no_entry, tt)))))))))))
+    (no_entry, (no_entry, (no_entry, (no_entry, (no_entry, (no_entry, (no_entry, (no_entry, (no_entry, (no_entry, tt))))))))))
 
 -- the causes of which none comes behind a frame
 abbrev early_causes : PageId → ℕ → ℕ → Word → List Cause
@@ -147,6 +150,38 @@ pub refused_fixes_alone : (h : List Entry) (p : PageId) (m n : ℕ) (w : Word) (
 refused_fixes_alone h p m n w k made =
     let no_entry = nonempty k made in
     (no_entry, (no_entry, (no_entry, (no_entry, (no_entry, (no_entry, (no_entry, (no_entry, (no_entry, (no_entry, (no_entry, (no_entry, (no_entry, (no_entry, (no_entry, (no_entry, (no_entry, (no_entry, (no_entry, tt)))))))))))))))))))
+
+-- the causes of which none comes behind the frame of a create
+abbrev uncreated_causes : PageId → ℕ → ℕ → Word → BadPage → List Cause
+uncreated_causes p m n w found =
+    cause.PlacesSpent m n
+    ∷ cause.NoSuchPage n
+    ∷ cause.HoldFull n
+    ∷ cause.Resident n
+    ∷ cause.AllFixed []
+    ∷ cause.RedoFault m n
+    ∷ cause.DiskFault m n
+    ∷ cause.BadPage found
+    ∷ cause.WatchFull n
+    ∷ cause.NoWatch
+    ∷ cause.TooSmall
+    ∷ cause.TooLarge m n
+    ∷ cause.Withdrawing n
+    ∷ cause.Undone []
+    ∷ cause.NoFrame n
+    ∷ cause.Stale w
+    ∷ cause.OtherPage p
+    ∷ cause.Latched w
+    ∷ cause.Busy w
+    ∷ cause.Unheld
+    ∷ []
+
+-- no entry comes before the refusal of a create with one of them
+pub refused_creates_alone : (h : List Entry) (p : PageId) (m n : ℕ) (w : Word) (found : BadPage) (k : Kind) (made : List Kind)
+    → AllByRecursion (λ why. MayPrecede h (k ∷ made) (kind.Refused (call.Create p n) why) → ⊥) (uncreated_causes p m n w found)
+refused_creates_alone h p m n w found k made =
+    let no_entry = nonempty k made in
+    (no_entry, (no_entry, (no_entry, (no_entry, (no_entry, (no_entry, (no_entry, (no_entry, (no_entry, (no_entry, (no_entry, (no_entry, (no_entry, (no_entry, (no_entry, (no_entry, (no_entry, (no_entry, (no_entry, (no_entry, tt))))))))))))))))))))
 
 -- the entries that are no writes
 abbrev no_writes : PageId → ℕ → ℕ → ℕ → List ℕ → Call → Cause → List Kind
@@ -186,14 +221,12 @@ covered_alone h p f m n bytes asked why = (tt, (tt, (tt, (tt, (tt, (tt, (tt, (tt
 -- the entries of calls that are not made yet
 abbrev later_kinds : PageId → ℕ → ℕ → ℕ → List Kind
 later_kinds p f m n =
-    kind.Create p f m n 5
-    ∷ kind.Move p f n
+    kind.Move p f n
     ∷ kind.Withdraw n
     ∷ kind.Undo n
     ∷ kind.Shrink n
     ∷ kind.Grow n
     ∷ kind.Resize m n
-    ∷ kind.Check m
     ∷ kind.WatchSet p
     ∷ kind.WatchAt p f
     ∷ kind.Occurred p true
@@ -204,7 +237,7 @@ later_kinds p f m n =
 -- none of them is legal
 pub no_later_kind : (o : Opening) (past : List Event) (c : ℕ) (p : PageId) (f m n : ℕ) → AllByRecursion (λ k. IsLegalKind o past c k → ⊥) (later_kinds p f m n)
 no_later_kind o past c p f m n =
-    let never : ⊥ → ⊥ = λ h. h in (never, (never, (never, (never, (never, (never, (never, (never, (never, (never, (never, (never, (never, tt)))))))))))))
+    let never : ⊥ → ⊥ = λ h. h in (never, (never, (never, (never, (never, (never, (never, (never, (never, (never, (never, tt)))))))))))
 
 -- a granted guess isn't either
 pub no_granted : (o : Opening) (past : List Event) (c : ℕ) (p : PageId) (f clock : ℕ) → IsLegalNote o past c (note.Granted p f clock) → ⊥
@@ -239,7 +272,7 @@ no_other_comes o past asked p m n w =
 -- a call that asks for no page isn't refused because every frame was seen with a fix
 pub all_fixed_of_others : (o : Opening) (past : List Event) (p : PageId) (m n : ℕ) (bytes : List ℕ) (seen : List (ℕ × Word))
     → AllByRecursion (λ asked. Comes o past asked (cause.AllFixed seen) → ⊥) (call.Clean n ∷ other_calls p m n bytes)
-all_fixed_of_others o past p m n bytes seen = let never : ⊥ → ⊥ = λ h. h in (never, (never, (never, (never, (never, (never, (never, (never, (never, (never, (never, (never, tt))))))))))))
+all_fixed_of_others o past p m n bytes seen = let never : ⊥ → ⊥ = λ h. h in (never, (never, (never, (never, (never, (never, (never, (never, (never, (never, (never, tt)))))))))))
 
 -- the kinds that move no page
 abbrev still_kinds : PageId → ℕ → ℕ → ℕ → List ℕ → Call → Cause → List Kind

@@ -274,7 +274,7 @@ log_counts_by_cause last = refl
 -- the causes that each call may have
 pub own : map (λ asked. map (is_own asked) causes) calls
     ≡ (false ∷ true ∷ true ∷ false ∷ replicate 4 true ++ replicate 13 false)
-    ∷ replicate 21 false
+    ∷ (false ∷ replicate 6 true ++ false ∷ true ∷ replicate 12 false)
     ∷ (replicate 8 false ++ true ∷ replicate 11 false ++ true ∷ [])
     ∷ (replicate 20 false ++ true ∷ [])
     ∷ (replicate 20 false ++ true ∷ [])

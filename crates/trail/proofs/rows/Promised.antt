@@ -1,5 +1,5 @@
 -- What the calls promise: which refusals are receipts, with what a sound page's fix is refused, and that lists of frames rise.
-use Rattle.std.proofs.Common.{◌≡◌, ◌≢◌, length, ℕ, true, false, List, [], ◌∷◌, ◌<◌, Option, Some, IsSome, IsTrue, IfSome, refl, subst, arith}
+use Rattle.std.proofs.Common.{◌≡◌, ◌≢◌, length, ℕ, true, false, List, [], ◌∷◌, ◌<◌, ◌≤◌, Option, Some, IsSome, IsTrue, IfSome, refl, subst, arith}
 use Rattle.page_ids.specs.Content.{Content}
 use Rattle.page_ids.specs.declared.ids.PageId.{PageId}
 use Rattle.page_ids.specs.declared.frame_word.Word.{Word}
@@ -22,6 +22,8 @@ use Rattle.trail.proofs.rows.Lawful.{closed, fixed}
 use Rattle.trail.proofs.rows.Refusals.{not_unfixed, unsound, fixed_next}
 use Rattle.trail.proofs.rows.Causes.{one_due}
 use Rattle.trail.proofs.rows.Due.{fix_inside}
+use Rattle.trail.proofs.rows.Writes.{one_written, both_written}
+use Rattle.trail.proofs.rows.BadWrites.{other_written, page_apart}
 
 -- no answer is yes and no
 pub apart : true ≡ false → ⊥
@@ -49,27 +51,27 @@ sound_full c h = apart_too ((h.excused refl).1 refl)
 
 -- it may be refused with a fault of the disk
 pub sound_fault : (c : Content) → IsPromised (opening (pages_of c)) [] (entry 1 1 1 (kind.Refused (call.Fix (page 0) 1) (cause.DiskFault 0 1)))
-sound_fault c = record { own = refl; filed = refl; excused = λ none. (refl, (λ value. refl)); rising = tt }
+sound_fault c = record { own = refl; filed = refl; excused = λ none. (refl, (λ value. refl)); rising = tt; begun = tt }
 
 -- or with one of the log: a victim may have to be written
 pub sound_log_fault : (c : Content) → IsPromised (opening (pages_of c)) [] (entry 1 1 1 (kind.Refused (call.Fix (page 0) 1) (cause.RedoFault 0 1)))
-sound_log_fault c = record { own = refl; filed = refl; excused = λ none. (refl, (λ value. refl)); rising = tt }
+sound_log_fault c = record { own = refl; filed = refl; excused = λ none. (refl, (λ value. refl)); rising = tt; begun = tt }
 
 -- or because every frame was seen with a fix
 pub sound_all_fixed : (c : Content) → IsPromised (opening (pages_of c)) [] (entry 1 1 1 (kind.Refused (call.Fix (page 0) 1) (cause.AllFixed [])))
-sound_all_fixed c = record { own = refl; filed = refl; excused = λ none. (refl, (λ value. refl)); rising = tt }
+sound_all_fixed c = record { own = refl; filed = refl; excused = λ none. (refl, (λ value. refl)); rising = tt; begun = tt }
 
 -- a page without a value may be refused as bad
 pub unsound_bad : (c : Content) → IsPromised (opening (pages_but c)) [] (entry 1 1 1 (kind.Refused (call.Fix (page 7) 1) (cause.BadPage (bad.Number 8))))
-unsound_bad c = record { own = refl; filed = refl; excused = λ none. (refl, (λ value. absurd (apart_too value))); rising = tt }
+unsound_bad c = record { own = refl; filed = refl; excused = λ none. (refl, (λ value. absurd (apart_too value))); rising = tt; begun = tt }
 
 -- and any page where no values are told
 pub untold_bad : IsPromised untold [] (entry 1 1 1 (kind.Refused (call.Fix (page 0) 1) (cause.BadPage (bad.Number 8))))
-untold_bad = record { own = refl; filed = refl; excused = λ none. (refl, tt); rising = tt }
+untold_bad = record { own = refl; filed = refl; excused = λ none. (refl, tt); rising = tt; begun = tt }
 
 -- a page outside its space is refused as such, whatever the disk gave for it
 pub outside_refused : (c : Content) → IsPromised (opening (λ p. Some c)) [] (entry 1 1 1 (kind.Refused (call.Fix (page 64) 1) (cause.NoSuchPage 64)))
-outside_refused c = record { own = refl; filed = refl; excused = λ none. absurd (one_due (cause.NoSuchPage 64) none); rising = tt }
+outside_refused c = record { own = refl; filed = refl; excused = λ none. absurd (one_due (cause.NoSuchPage 64) none); rising = tt; begun = tt }
 
 -- a fault of the disk is told by a receipt
 pub fault_noted : (c : Content) → IsPromised (opening (pages_of c)) [] (receipt 0 1 1 (note.Refused (call.Fix (page 0) 1) (cause.DiskFault 0 1))) → ⊥
@@ -125,7 +127,7 @@ read_promised c = (tt, (tt, (tt, (tt, (tt, tt)))))
 
 -- refused fixes of pages outside their spaces, a read and an unfix of an unheld page
 pub outside_promised : (c : Content) → ArePromised (opening (pages_of c)) not_unfixed
-outside_promised c = (record { own = refl; filed = refl; excused = tt; rising = tt }, (record { own = refl; filed = refl; excused = tt; rising = tt }, (record { own = refl; filed = refl; excused = λ none. absurd (one_due (cause.NoSuchPage 0) none); rising = tt }, (record { own = refl; filed = refl; excused = λ none. absurd (one_due (cause.NoSuchPage 64) none); rising = tt }, tt))))
+outside_promised c = (record { own = refl; filed = refl; excused = tt; rising = tt; begun = tt }, (record { own = refl; filed = refl; excused = tt; rising = tt; begun = tt }, (record { own = refl; filed = refl; excused = λ none. absurd (one_due (cause.NoSuchPage 0) none); rising = tt; begun = tt }, (record { own = refl; filed = refl; excused = λ none. absurd (one_due (cause.NoSuchPage 64) none); rising = tt; begun = tt }, tt))))
 
 -- the fix of a page whose bytes have another number
 pub unsound_promised : (c : Content) → ArePromised (opening (pages_but c)) unsound
@@ -167,3 +169,15 @@ all_fixed_noted c h = apart_too h.filed
 
 pub full_noted : (c : Content) → IsPromised (opening (pages_of c)) [] (receipt 0 1 1 (note.Refused (call.Fix (page 0) 1) (cause.HoldFull 64))) → ⊥
 full_noted c h = apart_too h.filed
+
+-- a refused clean had written the page that was dirty first, and no more than its bound
+pub clean_begun : (c : Content) → IsPromised (opening (pages_of c)) one_written (entry 9 0 1 (kind.Refused (call.Clean 1) (cause.DiskFault 0 1)))
+clean_begun c = record { own = refl; filed = refl; excused = tt; rising = tt; begun = record { rest = page 1 ∷ []; oldest = refl; most = omega arith } }
+
+-- it had written the other one first,
+pub clean_begun_in_other_order : (c : Content) → IsPromised (opening (pages_of c)) other_written (entry 9 0 1 (kind.Refused (call.Clean 16384) (cause.DiskFault 0 1))) → ⊥
+clean_begun_in_other_order c h = page_apart (page 1 ∷ []) h.begun.rest h.begun.oldest
+
+-- or one more than its bound
+pub clean_begun_beyond : (c : Content) → IsPromised (opening (pages_of c)) both_written (entry 10 0 1 (kind.Refused (call.Clean 1) (cause.DiskFault 0 1))) → ⊥
+clean_begun_beyond c h = let most : 2 ≤ 1 = h.begun.most in omega (arith, most)

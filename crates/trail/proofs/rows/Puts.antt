@@ -164,7 +164,7 @@ spent_log c = record {
 
 -- and its promise
 pub spent_promised : (c : Content) → ArePromised (opening (pages_of c)) spent_closed
-spent_promised c = (tt, (tt, (record { own = refl; filed = refl; excused = tt; rising = tt }, (tt, (tt, tt)))))
+spent_promised c = (tt, (tt, (record { own = refl; filed = refl; excused = tt; rising = tt; begun = tt }, (tt, (tt, tt)))))
 
 -- one LSN too few is enough
 pub spent_by_one : (c : Content) → IsLawful (opening (pages_of c)) first_fixed (entry 3 1 2 (kind.Refused (call.Put (page 0) 38 (1 ∷ [])) (cause.LogSpent (2 ^ 63 - 21))))
@@ -179,7 +179,7 @@ spent_by_one c = record {
 -- a blank page's record has 21 bytes
 pub create_spent_by_one : (c : Content) → IsLawful (opening (pages_of c)) [] (entry 1 1 1 (kind.Refused (call.Create (page 1) 1) (cause.LogSpent (2 ^ 63 - 20))))
 create_spent_by_one c = record {
-  legal = record { place = refl; number = refl; together = inl refl; before = refl; kind = tt };
+  legal = record { place = refl; number = refl; together = inl refl; before = inl refl; kind = tt };
   still = tt;
   covered = tt;
   causes = (refl, record { behind = omega arith; beyond = omega arith });
@@ -203,4 +203,4 @@ no_put_lawful c = record {
 
 -- and promised
 pub no_put_promised : (c : Content) → ArePromised (opening (pages_of c)) not_put
-no_put_promised c = (record { own = refl; filed = refl; excused = tt; rising = tt }, (tt, (tt, (tt, (tt, tt)))))
+no_put_promised c = (record { own = refl; filed = refl; excused = tt; rising = tt; begun = tt }, (tt, (tt, (tt, (tt, tt)))))

@@ -3,6 +3,7 @@ use Rattle.std.proofs.Common.{◌≡◌, ℕ, List, [], ◌∷◌, Some, Contain
 use Rattle.std.specs.List.{AllByRecursion}
 use Rattle.std.proofs.lemmas.Bool.Decides.{nat_tests}
 use Rattle.std.proofs.lemmas.List.Elements.{All-contains, All-from_recursion}
+use Rattle.std.proofs.lemmas.List.Sorted.{IsPermutation-refl}
 use Rattle.page_ids.specs.Content.{Content}
 use Rattle.page_ids.specs.FrameWord.{packed}
 use Rattle.page_ids.specs.declared.frame_word.Word.{Word}
@@ -152,7 +153,7 @@ refused_lawful c = record {
   legal = record { place = refl; number = refl; together = inl refl; before = refl; kind = tt };
   still = tt;
   covered = tt;
-  causes = (refl, record { absent = refl; none_free = refl; frames = refl; fixed = all_fixed });
+  causes = (refl, record { absent = refl; none_free = refl; frames = IsPermutation-refl (0 ∷ 1 ∷ 2 ∷ 3 ∷ []); fixed = all_fixed });
   victim = tt;
 }
 

@@ -205,7 +205,7 @@ log_failed_trail c = record {
 
 -- and its promise
 pub log_failed_promised : (c : Content) → ArePromised (opening (pages_of c)) log_failed
-log_failed_promised c = (record { own = refl; filed = refl; excused = tt; rising = tt }, (tt, (tt, (tt, (tt, (tt, (tt, (tt, (tt, (tt, (tt, tt)))))))))))
+log_failed_promised c = (record { own = refl; filed = refl; excused = tt; rising = tt; begun = record { rest = page 1 ∷ []; oldest = refl; most = omega arith } }, (tt, (tt, (tt, (tt, (tt, (tt, (tt, (tt, (tt, (tt, tt)))))))))))
 
 -- Or the disk does, at the second write.
 
@@ -233,7 +233,7 @@ disk_failed_trail c = record {
 
 -- and its promise
 pub disk_failed_promised : (c : Content) → ArePromised (opening (pages_of c)) disk_failed
-disk_failed_promised c = (record { own = refl; filed = refl; excused = tt; rising = tt }, (tt, (tt, (tt, (tt, (tt, (tt, (tt, (tt, (tt, (tt, tt)))))))))))
+disk_failed_promised c = (record { own = refl; filed = refl; excused = tt; rising = tt; begun = record { rest = page 1 ∷ []; oldest = refl; most = omega arith } }, (tt, (tt, (tt, (tt, (tt, (tt, (tt, (tt, (tt, (tt, tt)))))))))))
 
 -- Each device has a count of its own: the log's next fault begins where the log's last one ended, whatever the disk's was.
 

@@ -1,4 +1,4 @@
-use Rattle.std.proofs.Common.{◌≡◌, ◌≤◌, ◌+◌, ℕ, List, [], Option, Some, Result, IfOk, inl, inr, ◌⊎◌, length, sym, subst, arith}
+use Rattle.std.proofs.Common.{◌≡◌, ◌≤◌, ◌+◌, ℕ, true, List, [], Option, Some, Result, IfOk, inl, inr, ◌⊎◌, length, sym, subst, arith}
 use Rattle.page_disk.specs.declared.shelf.FaultAt.{FaultAt}
 use Rattle.page_ids.specs.declared.faults.OutOfMemory.{OutOfMemory}
 use Rattle.trail.specs.declared.event.Entry.{Entry}
@@ -27,7 +27,7 @@ returns-clause-closed g c =
     let old = c.args.desk.now.state in
     let new = c.clean_at.new.self.state in
     let P : Result (Option FaultAt) OutOfMemory → Type 0 = λ r. IfOk r (λ fault. IsClosed old new fault) in
-    let R : CleanErr → Type 0 = λ e. IsCleanRefusal old new runner 16384 (g.D.PageDisk.fault_count old.disk) (g.D.PageDisk.fault_count new.disk) c.args.redo.now.seen.faults c.clean_at.new.redo.seen.faults e in
+    let R : CleanErr → Type 0 = λ e. IsCleanRefusal old new runner 16384 true (g.D.PageDisk.fault_count old.disk) (g.D.PageDisk.fault_count new.disk) c.args.redo.now.seen.faults c.clean_at.new.redo.seen.faults e in
     elim c.match-clean_at.branch [
       | in-Ok w ↦
           let ok = w.in-Ok.ensures.ok.1 in
@@ -36,15 +36,16 @@ returns-clause-closed g c =
           subst P (sym w.result-is) (record {
             written = n;
             cleaned = ok.cleaned;
+            most = ok.most;
             clean = λ fine. none_left n (length (dirty ok.cleaned.mid)) (length (dirty old.history)) old.config.frames new.history all c.clean_at.ensures.few c.requires.frames ok.all;
           })
       | in-Err-OutOfMemory w ↦ subst P (sym w.result-is) tt
       | in-Err-RedoFault w ↦
           let is = subst R w.in-Err-RedoFault.field-0-is w.in-Err-RedoFault.ensures.refused in
           let C : FaultAt → Type 0 = λ f. IsClosed old new (Some f) in
-          subst P (sym w.result-is) (subst C (sym w.fault_of.ensures) (record { written = is.1.written; cleaned = is.1.cleaned; clean = λ fine. absurd (cc) }))
+          subst P (sym w.result-is) (subst C (sym w.fault_of.ensures) (record { written = is.1.written; cleaned = is.1.cleaned; most = is.1.most; clean = λ fine. absurd (cc) }))
       | in-Err-DiskFault w ↦
           let is = subst R w.in-Err-DiskFault.field-0-is w.in-Err-DiskFault.ensures.refused in
           let C : FaultAt → Type 0 = λ f. IsClosed old new (Some f) in
-          subst P (sym w.result-is) (subst C (sym w.fault_of-in-Err-DiskFault.ensures) (record { written = is.1.written; cleaned = is.1.cleaned; clean = λ fine. absurd (cc) }))
+          subst P (sym w.result-is) (subst C (sym w.fault_of-in-Err-DiskFault.ensures) (record { written = is.1.written; cleaned = is.1.cleaned; most = is.1.most; clean = λ fine. absurd (cc) }))
     ]

@@ -1,4 +1,4 @@
-use Rattle.std.proofs.Common.{◌≡◌, ◌<◌, ◌≤◌, ◌+◌, ◌*◌, ◌^◌, ℕ, List, [], ◌∷◌, Option, None, Some, IfSome, ap, ◌∙◌, sym, subst, refl, rules, arith, reverse, length}
+use Rattle.std.proofs.Common.{◌≡◌, ◌<◌, ◌≤◌, ◌+◌, ◌*◌, ◌^◌, ℕ, List, [], ◌∷◌, Option, None, Some, IfSome, IsSomeAnd, ap, ◌∙◌, sym, subst, refl, rules, arith, reverse, length}
 use Rattle.std.specs.List.{AllByRecursion}
 use Rattle.std.specs.Prelude.{unwrap_or}
 use Rattle.std.proofs.lemmas.List.{length-reverse}
@@ -17,7 +17,8 @@ use Rattle.trail.specs.declared.event.Held.{Held}
 use Rattle.trail.specs.Opening.{Opening}
 use Rattle.trail.specs.Merging.{lists, merged, AllWithin}
 use Rattle.trail.specs.Places.{AreNumbered, mark, entries}
-use Rattle.trail.specs.Dirt.{log_end}
+use Rattle.trail.specs.Covered.{AreDurable}
+use Rattle.trail.specs.Dirt.{dirty, log_end}
 use Rattle.desk.specs.Base.{Opened, IsBase}
 use Rattle.desk.specs.Behind.{IsOpening}
 use Rattle.frame_words.specs.Plain.{Plain, seen_of}
@@ -34,10 +35,10 @@ use Rattle.script_text.specs.Grammar.{calls_of, calls_in}
 use Rattle.script_run.specs.Openings.{Start, opening_of, opened_of, AreFaultsWithin}
 use Rattle.script_run.specs.Work.{Senses, Working, SoFar, StandsBehind, Worked, IsReady, IsBehindIt, AreInChunk, AreApart, senses}
 use Rattle.script_run.specs.Workers.{working}
-use Rattle.script_run.specs.Runs.{IsDiskOf, AreKept, EndsBehind, reports}
+use Rattle.script_run.specs.Runs.{IsDiskOf, KeepsRecords, KeepsRecordsBelow, EndsBehind, reports}
 use Rattle.script_run.proofs.Finished.{so_far_new, finished, Merges}
 use Rattle.script_run.proofs.Growing.{on_some}
-use Rattle.script_run.proofs.Resting.{ends_behind, are_durable, are_kept, extended, disk_of}
+use Rattle.script_run.proofs.Resting.{ends_behind, are_durable, are_kept, are_kept_below, extended, long_of, disk_of}
 use Rattle.script_run.proofs.runner.run_on.Goals as goal
 
 none_held : {A : Type 0} (xs : List A) → reverse xs ≡ [] → length xs ≡ 0
@@ -80,9 +81,12 @@ work-requires-clause-ranges g c κs within =
 
 one_call : (c : Command) → calls_of c ≡ 1
 one_call (command.Fix p now) = refl
+one_call (command.Create p now) = refl
 one_call (command.Read p at len) = refl
 one_call (command.Put p at bytes) = refl
 one_call (command.Unfix p) = refl
+one_call (command.Clean bound) = refl
+one_call command.Checkpoint = refl
 
 all_calls : (commands : List Command) → calls_in commands ≡ length commands
 all_calls [] = refl
@@ -91,14 +95,14 @@ all_calls (c ∷ commands) =
     omega (arith, more, one_call c, all_calls commands)
 
 -- a script has few commands, and no entry yet
-few_places : (first n calls : ℕ) (history : List Entry) → first ≡ 0 → history ≡ [] → calls ≡ n → calls ≤ 65536 → first + length history + 4 * n < 2 ^ 48
+few_places : (first n calls : ℕ) (history : List Entry) → first ≡ 0 → history ≡ [] → calls ≡ n → calls ≤ 65536 → first + 2 * length history + 32770 * n < 2 ^ 48
 few_places first n calls history start none same few = omega (arith, start, ap (length {A = Entry}) none, same, few)
 
 few_numbers : (next n calls : ℕ) → next ≡ 1 → calls ≡ n → calls ≤ 65536 → next + n + 64 < 2 ^ 32
 few_numbers next n calls start same few = omega (arith, start, same, few)
 
-few_more : (first n calls was is : ℕ) → first ≡ 0 → was ≡ 0 → calls ≡ n → calls ≤ 65536 → is ≤ was + 4 * n → first + 2 * is + 1 < 2 ^ 48
-few_more first n calls was is start none same few grown = omega (arith, start, none, same, few, grown)
+few_more : (first n calls was is soiled : ℕ) → first ≡ 0 → was ≡ 0 → calls ≡ n → calls ≤ 65536 → is ≤ was + 16385 * n → soiled ≤ is → first + is + soiled + 1 < 2 ^ 48
+few_more first n calls was is soiled start none same few grown less = omega (arith, start, none, same, few, grown, less)
 
 pub work-requires-clause-places : goal.work-requires-clause-places
 work-requires-clause-places g c κs within =
@@ -118,8 +122,8 @@ close-requires-clause-places g c κs within =
     let worked = c.in_ok-work.ensures in
     let desk = c.work.new.desk.state in
     let first = ap (λ (x : Config). x.first) (worked.left.config ∙ fresh.config_is ∙ c.config-config.ensures) ∙ c.requires.script.config.first in
-    few_more desk.config.first (length c.commands.result.now) (calls_in (commands_of c.args.script.now)) (length c.in-Ok-new.desk.state.history) (length desk.history) first
-    (ap (length {A = Entry}) fresh.history) (all_calls (commands_of c.args.script.now) ∙ ap (length {A = Command}) (sym c.commands.ensures)) c.requires.script.calls worked.grown
+    few_more desk.config.first (length c.commands.result.now) (calls_in (commands_of c.args.script.now)) (length c.in-Ok-new.desk.state.history) (length desk.history) (length (dirty desk.history)) first
+    (ap (length {A = Entry}) fresh.history) (all_calls (commands_of c.args.script.now) ∙ ap (length {A = Command}) (sym c.commands.ensures)) c.requires.script.calls worked.grown (c.dirty_pages_are_few.ensures desk.history)
 
 pub returns-clause-run : goal.returns-clause-run
 returns-clause-run g c =
@@ -191,12 +195,14 @@ returns-clause-run g c =
     let logged : IsLogged is (entries past) = subst H (sym here) (c.close.ensures.logged (worked None tt).so_far.logged) in
     let K : List Entry → Type 0 = λ h. log_end h ≤ is.end in
     let B : ℕ → Type 0 = λ n. EndsBehind n (entries past) in
-    let A : ℕ → Type 0 = λ n. AreKept n (report.told end.disk) (entries past) in
+    let A : ℕ → Type 0 = λ n. KeepsRecords n (report.told end.disk) (entries past) in
     let W : Option Told → ℕ → Type 0 = λ t n. IsAllKept n t is (report.told end.disk) in
     let opening_is : c.close.new.redo.opening ≡ report.told c.args.log = c.close.ensures.opening ∙ c.in_ok-work.ensures.opening ∙ c.in-Ok.ensures.disk.1 in
     let lsn_is = ap (λ (x : Config). x.lsn) config_is in
     let opened_is : g.R.RedoDisk.opened end.disk ≡ g.R.RedoDisk.opened c.args.log =
     omega (arith, c.close-redo.ensures.opened, c.close.ensures.later.opened, c.in_ok-work.ensures.log.opened, c.in-Ok.ensures.fresh.opened, first_is, lsn_is) in
+    let all_kept : IsAllKept (g.R.RedoDisk.opened c.args.log) (report.told c.args.log) is (report.told end.disk) =
+    subst (W (report.told c.args.log)) opened_is (subst (λ t. W t (g.R.RedoDisk.opened end.disk)) opening_is c.close-redo.ensures.all) in
     record {
       trail = trail;
       disk = last;
@@ -215,7 +221,15 @@ returns-clause-run g c =
       logs = record {
         ends = subst B (sym c.close-redo.ensures.end) (ends_behind o past is good logged (subst K (sym here) c.close.ensures.known));
         durable = c.close-redo.ensures.durable.1;
-        extended = extended (g.R.RedoDisk.opened c.args.log) (report.told c.args.log) (report.told end.disk) is (subst (W (report.told c.args.log)) opened_is (subst (λ t. W t (g.R.RedoDisk.opened end.disk)) opening_is c.close-redo.ensures.all)) c.requires.opened;
+        marks = subst (λ n. AreDurable n (entries past)) (sym c.close-redo.ensures.durable.0) (are_durable is (entries past) logged);
+        whole = λ fine. c.close-redo.ensures.durable.0 ∙ c.in_ok-fault.ensures.whole fine ∙ sym c.close-redo.ensures.end;
+        long = subst (λ n. IfSome (report.told c.args.log) (λ s. IsSomeAnd (report.told end.disk) (λ t. plan.config.lsn + length t.kept ≡ n))) (sym c.close-redo.ensures.durable.0)
+            (long_of (g.R.RedoDisk.opened c.args.log) plan.config.lsn (report.told c.args.log) (report.told end.disk) is all_kept c.requires.opened c.close-redo.ensures.kept
+            (omega (arith, c.close-redo.ensures.opened, first_is, opened_is))
+            (omega (arith, c.in-Ok.ensures.fresh.durable, c.in_ok-work.ensures.log.opened, c.in_ok-work.ensures.log.durable, c.close.ensures.later.opened, c.close.ensures.later.durable))
+            (omega (arith, c.close-redo.ensures.durable.0, c.close-redo.ensures.durable.1, c.close-redo.ensures.end)));
+        extended = extended (g.R.RedoDisk.opened c.args.log) (report.told c.args.log) (report.told end.disk) is all_kept c.requires.opened;
+        settled = subst (λ n. KeepsRecordsBelow n end.durable (report.told end.disk) (entries past)) first_is (are_kept_below o past is (report.told end.disk) end.durable c.close-redo.ensures.records good logged);
         kept = λ fine.
             let durable : log_end (entries past) ≤ is.durable = c.a_clean_history_is_durable.ensures o past is.durable good (are_durable is (entries past) logged) (one.0.clean fine) in
             subst A first_is (are_kept o past is (report.told end.disk) end.durable c.close-redo.ensures.records good logged (omega (arith, durable, c.close-redo.ensures.durable.0)));

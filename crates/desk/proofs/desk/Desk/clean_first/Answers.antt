@@ -1,4 +1,4 @@
-use Rattle.std.proofs.Common.{◌≡◌, true, List, [], ap, ◌∙◌, sym, subst, arith}
+use Rattle.std.proofs.Common.{◌≡◌, true, false, List, [], ap, ◌∙◌, sym, subst, arith}
 use Rattle.trail.specs.declared.event.Entry.{Entry}
 use Rattle.trail.specs.declared.event.Kind.TheVariants as kind
 use Rattle.trail.specs.Dirt.{is_dirty, log_end}
@@ -117,4 +117,17 @@ returns-in-Ok-clause-log g c =
       logged = λ is. subst (λ (h : List Entry). IsLogged seen h) (sym a.history) (omega (arith, upto), keeps.logged is);
       known = λ is. let known = keeps.known is in let same = ap log_end a.history in omega (arith, known, same);
       upto = upto_more seen.durable old mid.history c.append.new.self.state.history (next_entry mid c.args.by (kind.Write c.args.victim.page c.in-Ok.lsn c.in-Ok.upto)) upto a.history keeps.upto;
+      mark = keeps.mark;
     }
+
+pub returns-in-Ok-clause-unused : goal.returns-in-Ok-clause-unused
+returns-in-Ok-clause-unused g c = λ clean.
+    let soiled : is_dirty c.args.self.now.state.history c.args.victim.page ≡ true = ap (λ x. is_dirty x.state.history c.args.victim.page) (sym c.self.view_is) ∙ sym c.is_dirty-soiled.ensures ∙ c.if-not-soiled.false in
+    let bad : true ≡ false = sym soiled ∙ clean in
+    absurd (cc)
+
+pub returns-in-Err-clause-unused : goal.returns-in-Err-clause-unused
+returns-in-Err-clause-unused g c = λ clean.
+    let soiled : is_dirty c.args.self.now.state.history c.args.victim.page ≡ true = returns-in-Err-clause-soiled g c in
+    let bad : true ≡ false = sym soiled ∙ clean in
+    absurd (cc)

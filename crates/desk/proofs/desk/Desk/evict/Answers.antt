@@ -1,22 +1,20 @@
-use Rattle.std.proofs.Common.{◌≡◌, ◌<◌, ◌≤◌, ◌+◌, ℕ, List, Option, None, IfSome, length, refl, ap, ◌∙◌, sym, subst, arith}
+use Rattle.std.proofs.Common.{◌≡◌, ◌<◌, ◌≤◌, ◌+◌, ℕ, List, Option, None, IfSome, length, refl, ap, ◌∙◌, sym, subst, arith, inl}
 use Rattle.page_ids.specs.declared.config.Config.{Config}
 use Rattle.page_ids.specs.declared.frame_word.Word.{Word}
-use Rattle.trail.specs.declared.event.Call.TheVariants as call
 use Rattle.trail.specs.declared.event.Entry.{Entry}
 use Rattle.trail.specs.declared.event.Kind.TheVariants as kind
 use Rattle.trail.specs.History.{home}
 use Rattle.frame_words.specs.Conditions.{AreFound}
 use Rattle.frame_words.specs.Rows.{Row, published_row}
 use Rattle.frame_words.specs.Seen.{FramesSeen}
-use Rattle.desk.specs.Changes.{IsWriteFault}
+use Rattle.desk.specs.Changes.{IsWriteFault, IsForced}
 use Rattle.desk.specs.Claimed.{cause_of}
-use Rattle.desk.specs.Fixing.{IsUnlogged}
 use Rattle.desk.specs.Steps.{row_in}
-use Rattle.desk.specs.Victims.{AreSettled, IsUnhad}
+use Rattle.desk.specs.Victims.{AreSettled, IsAhead, IsUnhad, IsUnforced}
 use Rattle.desk.proofs.Claims.{tied_looked, behind_looked}
-use Rattle.desk.proofs.Evicting.{other_page, must_write, turn_on, taken_turn, taken_rows, taken_but, taken_behind, taken_back, settled_claimed, evicted_is, unhad_fault, appended_on, cleaned_length, cleaned_home, evict_absent, refused_absent, log_same, log_on, log_appended, fault_logged, leaves_more, leaves_none}
+use Rattle.desk.proofs.Evicting.{other_page, must_write, must_cover, turn_on, taken_turn, taken_rows, taken_but, taken_behind, taken_back, settled_claimed, evicted_is, unhad_fault, appended_on, cleaned_length, cleaned_home, evict_absent, refused_absent, log_same, log_on, log_appended, fault_logged, leaves_more, leaves_none}
 use Rattle.desk.proofs.Finding.{stopped_are}
-use Rattle.desk.proofs.Fixing.{unlogged_same, unlogged_fault}
+use Rattle.desk.proofs.Asking.{unforced_same, unforced_fault}
 use Rattle.desk.proofs.PassedWords.{AreInOrder, at_some, at_none}
 use Rattle.desk.proofs.Values.{behind_frames}
 use Rattle.desk.proofs.desk.Desk.evict.Goals as goal
@@ -32,10 +30,11 @@ returns-in-Ok-None-clause-refused g c =
     let old = c.args.self.now.state in
     let new = c.refuse_full.new.self.state in
     let faults = g.D.PageDisk.fault_count in
+    let mark = c.args.redo.now.seen.durable in
     let log = c.args.redo.now.seen.faults in
     let looked = at_none c.in-Ok-None.field-0 _ c.in-Ok-None.ensures.looked c.in-Ok-None.field-0-is in
-    subst (λ (r : List Row). IsUnhad old new r c.args.by c.args.page c.args.now (faults old.disk) (faults new.disk) log log c.refuse_full.result) (ap (λ (u : FramesSeen). u.rows) looked.is)
-    (c.refuse_full.ensures.refused (faults old.disk) (faults new.disk) log log)
+    subst (λ (r : List Row). IsUnhad old new r c.args.by c.args.page c.args.call (faults old.disk) (faults new.disk) mark log log c.refuse_full.result) (ap (λ (u : FramesSeen). u.rows) looked.is)
+    (c.refuse_full.ensures.refused (faults old.disk) (faults new.disk) mark log log)
 
 pub returns-in-Ok-None-clause-leaves : goal.returns-in-Ok-None-clause-leaves
 returns-in-Ok-None-clause-leaves g c =
@@ -53,6 +52,7 @@ returns-in-Ok-None-clause-leaves g c =
       settled = subst AreSettled (sym (told.rows ∙ ap (λ (u : FramesSeen). u.rows) looked.is)) c.requires.settled;
       desk = told.desk;
       log = log_on g.R.RedoDisk.told c.args.redo.now c.args.redo.now old.history old.history c.refuse_full.new.self.state.history told.logged told.ends told.upto (log_same g.R.RedoDisk.told c.args.redo.now old.history);
+      covered = inl refl;
       behind = λ o before. told.behind o (behind_looked P.tells P.told P.space_pages o s t old looked before);
     }
 
@@ -71,6 +71,7 @@ returns-in-Err-clause-leaves g c =
       settled = subst AreSettled (sym (ap (λ (u : FramesSeen). u.rows) looked.is)) c.requires.settled;
       desk = leaves_none P.page_size P.tells P.space_pages P.fault_count old;
       log = log_same g.R.RedoDisk.told c.args.redo.now old.history;
+      covered = inl refl;
       behind = λ o before. behind_looked P.tells P.told P.space_pages o s t old looked before;
     }
 
@@ -114,7 +115,7 @@ returns-in-Ok-clause-had g c =
     let gone = c.let_go.ensures in
     record {
       had = evicted_is s t u old mid new c.args.by v.page v.frame v.clock t.found c.seek.new.passed.items c.of.result c.requires.none_free c.requires.tied.unvisited taken stops are
-          clean.cleaned clean.desk.config clean.desk.instance gone.appended (gone.rows ∙ clean.rows);
+          clean.cleaned (λ was. gone.disk ∙ clean.unused was) clean.desk.config clean.desk.instance gone.appended (gone.rows ∙ clean.rows);
       next = gone.next;
       below = subst (λ (x : Config). v.frame < x.frames) (sym (gone.appended.config ∙ clean.desk.config)) (c.requires.orderly.below v.page v.frame taken.housed);
       vacant = gone.vacant;
@@ -135,6 +136,7 @@ returns-in-Ok-clause-leaves g c =
     let taken = at_some c.in-Ok-Some.field-0 _ v c.in-Ok-Some.ensures.taken c.in-Ok-Some.field-0-is in
     let clean = c.in-Ok.ensures in
     let gone = c.let_go.ensures in
+    let stops = at_some c.in-Ok-Some.field-0 _ v c.in-Ok-Some.ensures.stops c.in-Ok-Some.field-0-is in
     let below = c.requires.orderly.below v.page v.frame taken.housed in
     let whole = c.requires.tied.whole in
     record {
@@ -145,6 +147,7 @@ returns-in-Ok-clause-leaves g c =
       settled = settled_claimed s.rows u.rows v.frame taken.claimed.image (omega (arith, below, whole)) (gone.rows ∙ clean.rows ∙ taken_rows s t old.history v.page v.frame v.clock taken) c.requires.settled;
       desk = leaves_more P.page_size P.tells P.space_pages P.fault_count old mid new clean.desk gone.appended.config gone.appended.instance gone.disk;
       log = log_appended g.R.RedoDisk.told c.args.redo.now c.clean_first.new.redo old.history mid new c.args.by (kind.Evict v.page v.frame c.of.result) (λ x. tt) (λ n. refl) (λ m. tt) gone.appended clean.log;
+      covered = must_cover s t old v.page v.frame v.clock c.args.redo.now.seen.durable t.found c.seek.new.passed.items c.requires.none_free c.requires.tied.unvisited taken stops clean.covered;
       behind = λ o before. gone.behind o (clean.behind o (taken_behind P.tells P.told P.space_pages o s t old v.page v.frame v.clock c.requires.tied c.requires.orderly taken before));
     }
 
@@ -160,6 +163,7 @@ returns-in-Err-clean_first-clause-unmoved g c =
     ∙ taken_back P.tells P.told P.space_pages s t c.args.self.now.state v.page v.frame v.clock c.requires.tied c.requires.orderly c.requires.settled taken
 
 pub returns-in-Err-clean_first-clause-refused : goal.returns-in-Err-clean_first-clause-refused
+unfolding must_write
 returns-in-Err-clean_first-clause-refused g c =
     let old = c.args.self.now.state in
     let mid = c.clean_first.new.self.state in
@@ -170,15 +174,17 @@ returns-in-Err-clean_first-clause-refused g c =
     let taken = at_some c.in-Ok-Some.field-0 _ v c.in-Ok-Some.ensures.taken c.in-Ok-Some.field-0-is in
     let stops = at_some c.in-Ok-Some.field-0 _ v c.in-Ok-Some.ensures.stops c.in-Ok-Some.field-0-is in
     let faults = g.D.PageDisk.fault_count in
+    let mark = c.args.redo.now.seen.durable in
     let was = c.args.redo.now.seen.faults in
     let is = c.clean_first.new.redo.seen.faults in
     let e = c.in-Err-clean_first.error in
     let failed = c.in-Err-clean_first.ensures in
     let fault = subst (λ (d : g.row.D.Denot). IsWriteFault (faults old.disk) (faults d) was is e) (sym c.put_back.ensures.disk) failed.fault in
-    let refused = appended_on old mid new c.args.by (kind.Refused (call.Fix c.args.page c.args.now) (cause_of e)) (ap (λ x. x.state) failed.failed) c.put_back.ensures.appended in
+    let refused = appended_on old mid new c.args.by (kind.Refused c.args.call (cause_of e)) (ap (λ x. x.state) failed.failed) c.put_back.ensures.appended in
     let must = must_write s t old v.page v.frame v.clock t.found c.seek.new.passed.items c.requires.none_free c.requires.tied.unvisited taken stops failed.soiled in
-    subst (λ x. IsUnhad old new s.rows c.args.by c.args.page c.args.now (faults old.disk) (faults new.disk) was is x) (sym c.put_back.ensures.refused)
-    (unhad_fault old new s.rows c.args.by c.args.page c.args.now (faults old.disk) (faults new.disk) was is e fault refused must)
+    let forced = subst (λ (d : g.row.D.Denot). IsForced old.disk d (IsAhead old.history v.page mark) e) (sym c.put_back.ensures.disk) failed.forced in
+    subst (λ x. IsUnhad old new s.rows c.args.by c.args.page c.args.call (faults old.disk) (faults new.disk) mark was is x) (sym c.put_back.ensures.refused)
+    (unhad_fault old new s.rows c.args.by c.args.page c.args.call (faults old.disk) (faults new.disk) mark was is e fault refused must forced)
 
 pub returns-in-Err-clean_first-clause-leaves : goal.returns-in-Err-clean_first-clause-leaves
 returns-in-Err-clean_first-clause-leaves g c =
@@ -194,23 +200,25 @@ returns-in-Err-clean_first-clause-leaves g c =
     let failed = c.in-Err-clean_first.ensures in
     let back = c.put_back.ensures in
     let taken = at_some c.in-Ok-Some.field-0 _ v c.in-Ok-Some.ensures.taken c.in-Ok-Some.field-0-is in
+    let stops = at_some c.in-Ok-Some.field-0 _ v c.in-Ok-Some.ensures.stops c.in-Ok-Some.field-0-is in
     let same : mid.history ≡ old.history = ap (λ x. x.state.history) failed.failed in
     let unmoved = returns-in-Err-clean_first-clause-unmoved g c in
     record {
-      absent = refused_absent mid new c.args.by c.args.page c.args.page c.args.now (cause_of e) back.appended (ap (λ (h : List Entry). home h c.args.page) same ∙ c.requires.absent);
+      absent = refused_absent mid new c.args.by c.args.page c.args.call (cause_of e) back.appended (ap (λ (h : List Entry). home h c.args.page) same ∙ c.requires.absent);
       page_told = ap (λ (d : g.row.D.Denot). P.told d c.args.page) back.disk ∙ failed.others c.args.page (other_page old.history v.page c.args.page v.frame taken.housed c.requires.absent);
       count = let first = ap (length {A = Entry}) same in let last = ap (length {A = Entry}) back.appended.history in omega (arith, first, last);
       tied = back.tied;
       settled = subst AreSettled (sym unmoved) c.requires.settled;
       desk = leaves_more P.page_size P.tells P.space_pages P.fault_count old mid new failed.desk back.appended.config back.appended.instance back.disk;
-      log = log_appended g.R.RedoDisk.told c.args.redo.now c.clean_first.new.redo old.history mid new c.args.by (kind.Refused (call.Fix c.args.page c.args.now) (cause_of e)) (λ x. fault_logged x c.args.page c.args.now e) (λ n. refl) (λ m. tt) back.appended failed.log;
+      log = log_appended g.R.RedoDisk.told c.args.redo.now c.clean_first.new.redo old.history mid new c.args.by (kind.Refused c.args.call (cause_of e)) (λ x. fault_logged x c.args.call e) (λ n. refl) (λ m. tt) back.appended failed.log;
+      covered = must_cover s t old v.page v.frame v.clock c.args.redo.now.seen.durable t.found c.seek.new.passed.items c.requires.none_free c.requires.tied.unvisited taken stops failed.covered;
       behind = λ o before. behind_frames P.tells P.told P.space_pages o new s u unmoved (back.base ∙ failed.turn.base ∙ (taken_turn s t old.history v.page v.frame v.clock taken).base)
           (back.stands o s (failed.stands o s before));
     }
 
-pub returns-in-Ok-None-clause-unlogged : goal.returns-in-Ok-None-clause-unlogged
-returns-in-Ok-None-clause-unlogged g c = unlogged_same c.args.redo.now c.refuse_full.result
+pub returns-in-Ok-None-clause-unforced : goal.returns-in-Ok-None-clause-unforced
+returns-in-Ok-None-clause-unforced g c = unforced_same c.args.redo.now c.refuse_full.result
 
-pub returns-in-Err-clean_first-clause-unlogged : goal.returns-in-Err-clean_first-clause-unlogged
-returns-in-Err-clean_first-clause-unlogged g c =
-    subst (λ e. IsUnlogged c.args.redo.now c.clean_first.new.redo e) (sym c.put_back.ensures.refused) (unlogged_fault c.args.redo.now c.clean_first.new.redo c.in-Err-clean_first.error)
+pub returns-in-Err-clean_first-clause-unforced : goal.returns-in-Err-clean_first-clause-unforced
+returns-in-Err-clean_first-clause-unforced g c =
+    subst (λ e. IsUnforced c.args.redo.now c.clean_first.new.redo e) (sym c.put_back.ensures.refused) (unforced_fault c.args.redo.now c.clean_first.new.redo c.in-Err-clean_first.error)

@@ -4,13 +4,15 @@ use Rattle.page_ids.specs.declared.config.Config.{Config}
 use Rattle.trail.specs.declared.event.Entry.{Entry}
 use Rattle.trail.specs.History.{home}
 use Rattle.desk.specs.Steps.{IsLoaded, IsLoadRefusal, IsUnsound}
-use Rattle.desk.specs.Victims.{IsHad, IsUnhad}
+use Rattle.desk.specs.Fixing.{IsFixRefusal, IsUnlogged}
+use Rattle.desk.specs.Victims.{IsHad}
+use Rattle.desk.specs.declared.calls.FixErr.{FixErr}
 use Rattle.desk.specs.declared.calls.FixErr.TheVariants as refusal
 use Rattle.desk.proofs.Behind.{err_is, read_none, read_value}
 use Rattle.desk.proofs.Cleaning.{leaves_on}
 use Rattle.desk.proofs.Dirt.{same_self}
 use Rattle.desk.proofs.Evicting.{log_on}
-use Rattle.desk.proofs.Fixing.{had_value, had_clean, still_may, still_inside, unhad_refused, unread_refused, unlogged_load}
+use Rattle.desk.proofs.Fixing.{had_value, had_clean, still_may, still_inside, unhad_refused, unhad_no_bad, unforced_unlogged, unread_refused, unlogged_load}
 use Rattle.desk.proofs.Loading.{inside_below}
 use Rattle.desk.proofs.desk.Desk.fix_absent.Goals as goal
 
@@ -70,8 +72,12 @@ pub returns-in-Err-clause-refused : goal.returns-in-Err-clause-refused
 returns-in-Err-clause-refused g c = λ held few.
     let P = g.D.PageDisk in
     let old = c.args.self.now.state in
-    unhad_refused P.told P.space_pages P.fault_count old c.have_frame.new.self.state (g.F.Frames.seen c.args.frames.now).rows (g.F.Frames.seen c.have_frame.new.frames).rows c.args.by held c.args.page c.args.now
-    c.args.redo.now.seen.faults c.have_frame.new.redo.seen.faults c.in-Err.refusal (inside_below (P.space_pages old.disk) c.args.page c.requires.inside) few c.requires.absent c.in-Err.ensures.unmoved c.in-Err.ensures.refused
+    let new = c.have_frame.new.self.state in
+    let rows = (g.F.Frames.seen c.args.frames.now).rows in
+    let now = (g.F.Frames.seen c.have_frame.new.frames).rows in
+    subst (λ (e : FixErr). IsFixRefusal P.told P.space_pages P.fault_count old new rows now c.args.by held c.args.page c.args.now c.args.redo.now.seen.durable c.args.redo.now.seen.faults c.have_frame.new.redo.seen.faults e) (sym c.fix_err.ensures)
+    (unhad_refused P.told P.space_pages P.fault_count old new rows now c.args.by held c.args.page c.args.now
+    c.args.redo.now.seen.durable c.args.redo.now.seen.faults c.have_frame.new.redo.seen.faults c.in-Err.error (inside_below (P.space_pages old.disk) c.args.page c.requires.inside) few c.requires.absent c.in-Err.ensures.unmoved c.in-Err.ensures.refused)
 
 pub returns-in-Err-clause-grown : goal.returns-in-Err-clause-grown
 returns-in-Err-clause-grown g c = let count = c.have_frame.ensures.count in omega (arith, count)
@@ -81,19 +87,18 @@ returns-in-Err-clause-behind g c = λ o based before. c.have_frame.ensures.behin
 
 pub returns-in-Err-clause-unsound : goal.returns-in-Err-clause-unsound
 returns-in-Err-clause-unsound g c = λ o bad before is.
-    let P = g.D.PageDisk in
-    let old = c.args.self.now.state in
-    let new = c.have_frame.new.self.state in
-    let rows = (g.F.Frames.seen c.args.frames.now).rows in
-    let why : c.in-Err.refusal ≡ refusal.BadPage bad = err_is c.in-Err.refusal (refusal.BadPage bad) is in
-    absurd (subst (λ e. IsUnhad old new rows c.args.by c.args.page c.args.now (P.fault_count old.disk) (P.fault_count new.disk) c.args.redo.now.seen.faults c.have_frame.new.redo.seen.faults e) why c.in-Err.ensures.refused)
+    absurd (unhad_no_bad c.in-Err.error bad (sym c.fix_err.ensures ∙ err_is c.fix_err.result (refusal.BadPage bad) is))
+
+pub returns-in-Err-clause-unlogged : goal.returns-in-Err-clause-unlogged
+returns-in-Err-clause-unlogged g c =
+    subst (λ (e : FixErr). IsUnlogged c.args.redo.now c.have_frame.new.redo e) (sym c.fix_err.ensures) (unforced_unlogged c.args.redo.now c.have_frame.new.redo c.in-Err.error c.in-Err.ensures.unforced)
 
 pub returns-in-Err-load-clause-refused : goal.returns-in-Err-load-clause-refused
 returns-in-Err-load-clause-refused g c = λ held few.
     let P = g.D.PageDisk in
     let old = c.args.self.now.state in
     unread_refused P.told P.space_pages P.fault_count old c.have_frame.new.self.state c.load.new.self.state (g.F.Frames.seen c.args.frames.now).rows (g.F.Frames.seen c.have_frame.new.frames).rows (g.F.Frames.seen c.load.new.frames).rows
-    c.args.by held c.args.page c.args.now c.args.redo.now.seen.faults c.have_frame.new.redo.seen.faults c.in-Ok.frame c.in-Err-load.refusal (inside_below (P.space_pages old.disk) c.args.page c.requires.inside) few
+    c.args.by held c.args.page c.args.now c.args.redo.now.seen.durable c.args.redo.now.seen.faults c.have_frame.new.redo.seen.faults c.in-Ok.frame c.in-Err-load.refusal (inside_below (P.space_pages old.disk) c.args.page c.requires.inside) few
     c.requires.absent c.have_frame.ensures.desk.later c.have_frame.ensures.page_told c.in-Ok.ensures.had c.in-Err-load.ensures.unmoved c.in-Err-load.ensures.refused
 
 pub returns-in-Err-load-clause-grown : goal.returns-in-Err-load-clause-grown

@@ -1,4 +1,4 @@
-use Rattle.std.proofs.Common.{◌≡◌, ◌<◌, ℕ, Some, IfOk, IfErr, IsSome, length, refl, ap, ◌∙◌, sym, subst, arith, inl, inr}
+use Rattle.std.proofs.Common.{◌≡◌, ◌<◌, ◌⊎◌, ℕ, Some, IfOk, IfErr, IsSome, length, refl, ap, ◌∙◌, sym, subst, arith, inl, inr}
 use Rattle.std.proofs.lemmas.Result.{IfOk-weaker, IfErr-weaker}
 use Rattle.trail.specs.declared.event.Call.TheVariants as call
 use Rattle.trail.specs.declared.event.Cause.TheVariants as cause
@@ -14,6 +14,7 @@ use Rattle.desk.specs.Logged.{IsLogged, AreUpTo}
 use Rattle.desk.specs.State.{State}
 use Rattle.desk.specs.Steps.{IsHit, IsRefusedFix}
 use Rattle.desk.specs.Tied.{IsOwn}
+use Rattle.desk.specs.Victims.{MustCover}
 use Rattle.desk.specs.declared.calls.FixErr.{FixErr}
 use Rattle.desk.specs.declared.calls.Granted.{Granted}
 use Rattle.desk.proofs.Evicting.{leaves_more, leaves_none, log_same}
@@ -233,7 +234,7 @@ returns-in-None-clause-refused g c =
     let P = g.D.PageDisk in
     let few : c.args.held < 64 = omega (arith, c.if-held-ge64.false) in
     let R = λ (d : State g.row.D.Denot) (held : ℕ) (e : FixErr). IsFixRefusal P.told P.space_pages P.fault_count d c.fix_absent.new.self.state (g.F.Frames.seen c.args.frames.now).rows (g.F.Frames.seen c.fix_absent.new.frames).rows c.args.by held c.args.page c.args.now
-    c.args.redo.now.seen.faults c.fix_absent.new.redo.seen.faults e in
+    c.args.redo.now.seen.durable c.args.redo.now.seen.faults c.fix_absent.new.redo.seen.faults e in
     subst (λ (d : State g.row.D.Denot). IfErr c.fix_absent.result (λ e. R d c.args.held e)) c.reserve_fix.ensures.same
     (IfErr-weaker c.fix_absent.result (λ e. (held : ℕ) → held < 64 → R c.reserve_fix.new.self.state held e) (λ e. R c.reserve_fix.new.self.state c.args.held e) (λ e is. is c.args.held few) c.fix_absent.ensures.refused)
 
@@ -271,3 +272,7 @@ returns-in-Some-clause-upto g c =
 pub returns-in-None-clause-upto : goal.returns-in-None-clause-upto
 returns-in-None-clause-upto g c =
     subst (λ (d : State g.row.D.Denot). AreUpTo c.fix_absent.new.redo.seen.durable d.history c.fix_absent.new.self.state.history) c.reserve_fix.ensures.same c.fix_absent.ensures.log.upto
+
+pub returns-in-None-clause-covered : goal.returns-in-None-clause-covered
+returns-in-None-clause-covered g c =
+    subst (λ (d : State g.row.D.Denot). (c.fix_absent.new.redo ≡ c.args.redo.now) ⊎ MustCover d (g.F.Frames.seen c.args.frames.now).rows c.args.redo.now.seen.durable) c.reserve_fix.ensures.same c.fix_absent.ensures.covered

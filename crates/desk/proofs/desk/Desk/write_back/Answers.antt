@@ -1,12 +1,14 @@
-use Rattle.std.proofs.Common.{◌≡◌, ◌∷◌, List, refl, sym, subst, arith}
+use Rattle.std.proofs.Common.{◌≡◌, ◌<◌, ◌∷◌, ℕ, List, refl, sym, subst, arith}
 use Rattle.trail.specs.declared.event.Entry.{Entry}
 use Rattle.trail.specs.declared.event.Kind.{Kind}
 use Rattle.trail.specs.declared.event.Kind.TheVariants as kind
+use Rattle.desk.specs.Changes.{covered_to}
 use Rattle.desk.specs.Logged.{IsLogged}
 use Rattle.desk.specs.State.{State}
 use Rattle.desk.specs.Steps.{next_entry}
 use Rattle.desk.proofs.Changing.{desk_kept, grown_mid, written_lsn, write_may, write_kept, fail_kept}
-use Rattle.desk.proofs.Cleaning.{front_dirty}
+use Rattle.desk.proofs.Cleaning.{front_dirty, marked_write}
+use Rattle.desk.proofs.Evicting.{forced_on}
 use Rattle.desk.proofs.Logging.{logged_later}
 use Rattle.desk.proofs.desk.Desk.write_back.Goals as goal
 
@@ -39,6 +41,20 @@ returns-in-Ok-clause-ok g c =
       covered = omega (arith, lsn, c.in-Ok.ensures.ok.0);
       entry = grown_mid c.args.self.now.state c.write_out.new.self.state c.append.new.self.state c.write_out.new.self.state.disk c.args.by k still c.append.ensures.appended;
     }
+
+pub returns-in-Ok-clause-upto : goal.returns-in-Ok-clause-upto
+returns-in-Ok-clause-upto g c =
+    let k : Kind = kind.Write c.args.oldest.page c.args.oldest.newest c.in-Ok.upto in
+    let durable = c.args.redo.now.seen.durable in
+    let end = c.args.redo.now.seen.end in
+    let now = c.write_out.new.redo.seen.durable in
+    let lsn = written_lsn g.D.PageDisk.tells g.D.PageDisk.told g.D.PageDisk.space_pages (g.F.Frames.seen c.args.frames.now) (g.F.Frames.seen c.take_image-image.new.frames) c.args.self.now.state c.args.by c.args.oldest.page c.frame_of-frame.result c.take_image-image.result
+    c.requires.tied c.requires.alone c.frame_of-frame.ensures.home c.frame_of-frame.ensures.below c.frame_of-frame.ensures.only c.take_image-image.ensures.image c.take_image-image.ensures.seen
+    c.args.oldest c.requires.oldest.0 c.requires.oldest.1 refl in
+    let still = desk_kept c.args.self.now.state c.write_out.new.self.state c.write_out.ensures.desk.config c.write_out.ensures.desk.instance c.write_out.ensures.history in
+    marked_write durable end now c.args.self.now.state.config.first c.args.by c.args.self.now.state.history c.append.new.self.state.history c.args.oldest.page c.args.oldest.newest c.in-Ok.upto
+    (subst (λ (n : ℕ). now ≡ covered_to durable end n) lsn c.in-Ok.ensures.mark) c.in-Ok.ensures.ok.1
+    (grown_mid c.args.self.now.state c.write_out.new.self.state c.append.new.self.state c.write_out.new.self.state.disk c.args.by k still c.append.ensures.appended)
 
 pub returns-in-Ok-clause-logged : goal.returns-in-Ok-clause-logged
 returns-in-Ok-clause-logged g c = λ before.
@@ -134,3 +150,11 @@ returns-in-Err-clause-behind g c =
     g.D.PageDisk.page_size g.D.PageDisk.fault_count c.write_out.new.self.state (g.F.Frames.seen c.give_image-in-Err.new.frames) still
     (front_dirty c.args.self.now.state.history c.args.oldest c.requires.oldest.0 c.requires.oldest.1) c.write_out.ensures.others c.in-Err.ensures.failed c.give_image-in-Err.ensures.seen in
     kept.behind
+
+pub returns-in-Err-clause-forced : goal.returns-in-Err-clause-forced
+returns-in-Err-clause-forced g c =
+    let mark = c.args.redo.now.seen.durable in
+    let lsn = written_lsn g.D.PageDisk.tells g.D.PageDisk.told g.D.PageDisk.space_pages (g.F.Frames.seen c.args.frames.now) (g.F.Frames.seen c.take_image-image.new.frames) c.args.self.now.state c.args.by c.args.oldest.page c.frame_of-frame.result c.take_image-image.result
+    c.requires.tied c.requires.alone c.frame_of-frame.ensures.home c.frame_of-frame.ensures.below c.frame_of-frame.ensures.only c.take_image-image.ensures.image c.take_image-image.ensures.seen
+    c.args.oldest c.requires.oldest.0 c.requires.oldest.1 refl in
+    forced_on c.args.self.now.state.disk c.write_out.new.self.state.disk c.in-Err.error (λ lt. subst (λ (n : ℕ). mark < n) lsn lt) c.in-Err.ensures.forced

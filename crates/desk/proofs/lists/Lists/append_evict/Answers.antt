@@ -27,5 +27,5 @@ invariant_of-self c =
     let may = subst (λ (l : Ledger). IsDeparture l c.args.page c.args.frame) (sym c.self.view_is) c.requires.may in
     let turn = front_none (in_turn s.hand s.free.items) (sym (next_is s.config h s.free.items s.hand k.booked) ∙ may.none_free) in
     let updated : Updates same_page s.homes c.remove-self-inside.new.self c.args.page None = search rules in
-    kept_as _ (e ∷ h) _ _ _ _ _ _ _ _ _ _ _ _ _ grown refl refl refl c.remove.ensures refl
-    (kept_evict _ h _ _ _ _ _ _ _ k e place c.args.page c.args.frame c.requires.kind.0 (get same_page c.remove-self-inside.new.self) c.requires.kind.1 may.resident may.clean turn updated.0)
+    kept_as _ (e ∷ h) _ _ _ _ _ _ _ _ _ _ _ _ _ _ _ grown refl refl refl refl c.remove.ensures refl
+    (kept_evict _ h _ _ _ _ _ _ _ _ k e place c.args.page c.args.frame c.requires.kind.0 (get same_page c.remove-self-inside.new.self) c.requires.kind.1 may.resident may.clean turn updated.0)

@@ -22,5 +22,5 @@ invariant_of-self c =
     let grown = pushed s.history.items c.push_kept.new.items.items e c.push_kept.ensures.items in
     let place : e.place ≡ mark s.config.first h + 1 = subst (λ (l : Ledger). e.place ≡ mark l.config.first l.history + 1) (sym c.self.view_is) c.requires.place in
     let here = subst (λ (l : Ledger). home l.history c.args.page ≡ Some c.args.frame) (sym c.self.view_is) c.requires.may in
-    kept_as _ (e ∷ h) _ _ _ _ _ _ _ _ _ _ _ _ _ grown refl refl refl c.touch.ensures.order refl
-    (kept_fix _ h _ _ _ _ _ _ _ k e place c.args.page c.args.frame c.requires.kind.0 c.args.now c.requires.kind.1 here)
+    kept_as _ (e ∷ h) _ _ _ _ _ _ _ _ _ _ _ _ _ _ _ grown refl refl refl refl c.touch.ensures.order refl
+    (kept_fix _ h _ _ _ _ _ _ _ _ k e place c.args.page c.args.frame c.requires.kind.0 c.args.now c.requires.kind.1 here)

@@ -33,5 +33,5 @@ invariant_of-self c =
     let may = subst (λ (l : Ledger). IsArrival l c.args.page f) (sym c.self.view_is) c.requires.may in
     let turn = front_is (in_turn s.hand s.free.items) f (sym (next_is s.config h s.free.items s.hand k.booked) ∙ may.next) in
     let updated : Updates same_page s.homes c.insert.new.self c.args.page (Some f) = search rules in
-    kept_as _ (e ∷ h) _ _ _ _ _ _ _ _ _ _ _ _ _ grown c.take_next.ensures.free c.take_next.ensures.hand refl c.read_in.ensures c.take_next.ensures.room
-    (kept_load _ h _ _ _ _ _ _ _ k e place c.args.page f (get same_page c.insert.new.self) (drop 1 (in_turn s.hand s.free.items)) c.requires.kind may.absent turn updated.0)
+    kept_as _ (e ∷ h) _ _ _ _ _ _ _ _ _ _ _ _ _ _ _ grown c.take_next.ensures.free c.take_next.ensures.hand refl refl c.read_in.ensures c.take_next.ensures.room
+    (kept_load _ h _ _ _ _ _ _ _ _ k e place c.args.page f (get same_page c.insert.new.self) (drop 1 (in_turn s.hand s.free.items)) c.requires.kind may.absent turn updated.0)

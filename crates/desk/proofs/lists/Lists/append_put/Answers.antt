@@ -1,9 +1,24 @@
-use Rattle.std.proofs.Common.{◌≡◌, ◌+◌, ◌∷◌, refl, sym, subst, reverse}
+use Rattle.std.proofs.Common.{◌≡◌, ◌+◌, ◌∷◌, Some, rules, refl, sym, subst, reverse}
 use Rattle.trail.specs.Places.{mark}
-use Rattle.desk.specs.Ledger.{Ledger}
+use Rattle.trail.specs.History.{home}
+use Rattle.desk.specs.Ledger.{Ledger, IsChange}
 use Rattle.desk.proofs.ListsKept.{kept_as, kept_put, pushed}
-use Rattle.desk.specs.Ledger.{IsChange}
+use Rattle.desk.proofs.ListsFlush.{soil_new, soil_latest}
 use Rattle.desk.proofs.lists.Lists.append_put.Goals as goal
+
+pub soil-requires-clause-new : goal.soil-requires-clause-new
+soil-requires-clause-new c =
+    let s = c.self.inside in
+    let k = c.self.invariant in
+    let here : home (reverse s.history.items) c.args.page ≡ Some c.in-Some.frame = search rules in
+    soil_new s.config (reverse s.history.items) _ s.tenants.items s.newest.items s.flush k.homed k.soiled c.args.page c.in-Some.frame here
+
+pub soil-requires-clause-latest : goal.soil-requires-clause-latest
+soil-requires-clause-latest c =
+    let s = c.self.inside in
+    let k = c.self.invariant in
+    let may = subst (λ (l : Ledger). IsChange l c.args.page c.args.span.start c.args.span.end) (sym c.self.view_is) c.requires.may in
+    soil_latest s.config (reverse s.history.items) _ s.tenants.items s.newest.items s.flush k.homed k.soiled c.args.span.start may.behind
 
 pub invariant_of-self : goal.invariant_of-self
 invariant_of-self c =
@@ -13,6 +28,7 @@ invariant_of-self c =
     let k = c.self.invariant in
     let grown = pushed s.history.items c.push_kept.new.items.items e c.push_kept.ensures.items in
     let place : e.place ≡ mark s.config.first h + 1 = subst (λ (l : Ledger). e.place ≡ mark l.config.first l.history + 1) (sym c.self.view_is) c.requires.place in
-    let may = subst (λ (l : Ledger). IsChange l c.args.page c.args.span.end) (sym c.self.view_is) c.requires.may in
-    kept_as _ (e ∷ h) _ _ _ _ _ _ _ _ _ _ _ _ _ grown refl refl c.soil.ensures.items refl refl
-    (kept_put _ h _ _ _ _ _ _ _ k e place c.args.page c.requires.kind.0 c.requires.kind.1 c.args.span.start c.args.span.end c.requires.kind.2 may.behind may.resident)
+    let may = subst (λ (l : Ledger). IsChange l c.args.page c.args.span.start c.args.span.end) (sym c.self.view_is) c.requires.may in
+    let here : home h c.args.page ≡ Some c.in-Some.frame = search rules in
+    kept_as _ (e ∷ h) _ _ _ _ _ _ _ _ _ _ _ _ _ _ _ grown refl refl c.soil.ensures.newest c.soil.ensures.flush refl refl
+    (kept_put _ h _ _ _ _ _ _ _ _ k e place c.args.page c.in-Some.frame c.requires.kind.0 c.requires.kind.1 c.args.span.start c.args.span.end c.requires.kind.2 here may.behind may.rises)

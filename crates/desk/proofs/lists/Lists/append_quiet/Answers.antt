@@ -12,4 +12,4 @@ invariant_of-self c =
     let k = c.self.invariant in
     let grown = pushed s.history.items c.push_kept.new.items.items e c.push_kept.ensures.items in
     let place : e.place ≡ mark s.config.first h + 1 = subst (λ (l : Ledger). e.place ≡ mark l.config.first l.history + 1) (sym c.self.view_is) c.requires.place in
-    kept_as _ (e ∷ h) _ _ _ _ _ _ _ _ _ _ _ _ _ grown refl refl refl refl refl (kept_quiet _ h _ _ _ _ _ _ _ k e place c.requires.quiet)
+    kept_as _ (e ∷ h) _ _ _ _ _ _ _ _ _ _ _ _ _ _ _ grown refl refl refl refl refl refl (kept_quiet _ h _ _ _ _ _ _ _ _ k e place c.requires.quiet)

@@ -1,15 +1,18 @@
-use Rattle.std.proofs.Common.{◌≡◌, rules, arith, ap, reverse, length}
+use Rattle.std.proofs.Common.{◌∙◌, arith, ap, reverse, length}
+use Rattle.trail.specs.Dirt.{dirty}
 use Rattle.trail.specs.declared.event.Dirty.{Dirty}
 use Rattle.desk.specs.Ledger.{Ledger}
-use Rattle.desk.proofs.ListsWalk.{few_dirty}
+use Rattle.desk.proofs.ListsFlush.{count_is}
 use Rattle.desk.proofs.lists.Lists.dirty_pages.Goals as goal
+
+pub returns-clause-count : goal.returns-clause-count
+returns-clause-count c =
+    let s = c.self.inside in
+    let k = c.self.invariant in
+    c.len.ensures.len ∙ count_is s.config (reverse s.history.items) _ s.tenants.items s.newest.items s.flush k.homed k.soiled
+    ∙ ap (λ (l : Ledger). length {A = Dirty} (dirty l.history)) c.self.view_is
 
 pub returns-clause-few : goal.returns-clause-few
 returns-clause-few c =
-    let s = c.self.inside in
-    let h = reverse s.history.items in
-    let few = few_dirty s.config h _ _ _ _ _ _ _ c.self.invariant in
-    let count : c.len.result ≡ length s.dirty.items = search rules in
-    let same = ap (length {A = Dirty}) c.self.invariant.soiled.dirty_are in
-    let config : s.config.frames ≡ c.args.self.now.config.frames = ap (λ (l : Ledger). l.config.frames) c.self.view_is in
-    omega (arith, few, count, same, config)
+    let config = ap (λ (l : Ledger). l.config.frames) c.self.view_is in
+    omega (arith, c.len.ensures.few, c.self.invariant.soiled.room_is, config)

@@ -13,7 +13,7 @@ returns-in-None-clause-vacant c =
     let h = reverse s.history.items in
     let is : c.copied.result ≡ next_frame (book s.config h) = search rules in
     subst (λ (l : Ledger). IfSome c.copied.result (λ f. IsVacant l.history f)) c.self.view_is
-    (next_vacant s.config h _ _ _ _ _ _ _ c.self.invariant c.copied.result is)
+    (next_vacant s.config h _ _ _ _ _ _ _ _ c.self.invariant c.copied.result is)
 
 pub returns-in-None-clause-none : goal.returns-in-None-clause-none
 returns-in-None-clause-none c =
@@ -21,12 +21,12 @@ returns-in-None-clause-none c =
     let h = reverse s.history.items in
     let is : c.copied.result ≡ next_frame (book s.config h) = search rules in
     subst (λ (l : Ledger). c.copied.result ≡ None → (f : ℕ) → f < l.config.frames → (p : PageId) × (home l.history p ≡ Some f)) c.self.view_is
-    (all_used s.config h _ _ _ _ _ _ _ c.self.invariant c.copied.result is)
+    (all_used s.config h _ _ _ _ _ _ _ _ c.self.invariant c.copied.result is)
 
 pub returns-in-Some-clause-orderly : goal.returns-in-Some-clause-orderly
 returns-in-Some-clause-orderly c =
-    subst (λ (l : Ledger). AreOrderly l.config l.history) c.self.view_is (orderly c.self.inside.config (reverse c.self.inside.history.items) _ _ _ _ _ _ _ c.self.invariant)
+    subst (λ (l : Ledger). AreOrderly l.config l.history) c.self.view_is (orderly c.self.inside.config (reverse c.self.inside.history.items) _ _ _ _ _ _ _ _ c.self.invariant)
 
 pub returns-in-None-clause-orderly : goal.returns-in-None-clause-orderly
 returns-in-None-clause-orderly c =
-    subst (λ (l : Ledger). AreOrderly l.config l.history) c.self.view_is (orderly c.self.inside.config (reverse c.self.inside.history.items) _ _ _ _ _ _ _ c.self.invariant)
+    subst (λ (l : Ledger). AreOrderly l.config l.history) c.self.view_is (orderly c.self.inside.config (reverse c.self.inside.history.items) _ _ _ _ _ _ _ _ c.self.invariant)

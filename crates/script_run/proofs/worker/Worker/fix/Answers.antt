@@ -7,7 +7,7 @@ use Rattle.trail.specs.History.{value}
 use Rattle.desk.specs.declared.calls.Granted.{Granted}
 use Rattle.desk.specs.declared.calls.FixErr.{FixErr}
 use Rattle.desk.specs.Fixing.{IsGrantedBy}
-use Rattle.script_run.specs.Work.{Working, Along, IsRefusedFix, senses}
+use Rattle.script_run.specs.Work.{Working, Along, RefusesFix, senses}
 use Rattle.script_run.specs.Workers.{working}
 use Rattle.script_run.proofs.Fixes.{reverse-push}
 use Rattle.script_run.proofs.Framing.{room_left}
@@ -73,7 +73,7 @@ returns-in_default g c =
     let e = c.fix_at-answer.ensures in
     let fixes : Fixes sense old new before after was is w = record { ready = c.requires.ready; left = e.left; grown = e.grown; behind = λ o. e.behind o tt; tied = e.tied; later = e.later; known = e.known; logged = e.logged } in
     let none : c.in_ok-granted.granted ≡ None = search rules in
-    let refuses : IsRefusedFix c.fix_at-answer.result = c.in_ok-granted.ensures.refused none in
+    let refuses : RefusesFix c.fix_at-answer.result = c.in_ok-granted.ensures.refused none in
     let long : vec_len c.reserve.new.self ≡ length c.reserve.new.self.items = search rules in
     let count : c.len-held.result ≡ length w.fixed = c.len-held.ensures ∙ long ∙ ap (length {A = Held}) c.in_ok-reserve.ensures.items ∙ sym (length-reverse items) in
     let make : List Held → Working = λ fixed. record { pass = w.pass; next = w.next + 1; fixed = reverse fixed; account = w.account } in

@@ -5,7 +5,7 @@ use Rattle.trail.specs.declared.event.Note.{Note}
 use Rattle.trail.specs.declared.event.Note.TheVariants as note
 use Rattle.trail.specs.Calls.{given_back}
 use Rattle.frame_words.specs.Plain.{Plain}
-use Rattle.script_run.specs.Work.{Working, Ending, IsReady, IsBehindIt, noted_at, noted, given_at}
+use Rattle.script_run.specs.Work.{Working, Ending, IsReady, IsBehindIt, noted_at, with_note, given_at}
 use Rattle.script_run.specs.Workers.{working}
 use Rattle.script_run.specs.Work.{senses}
 use Rattle.script_run.proofs.Fixes.{reverse-push}
@@ -28,7 +28,7 @@ returns-clause-done g c =
     let back : given_back h.number w.fixed ≡ reverse rest = ap (given_back h.number) first ∙ ap (λ (b : Bool). cond b (reverse rest) (h ∷ given_back h.number (reverse rest))) (eq-eqb h.number h.number refl) in
     λ o start log past commands so.
     let e : working c.note.new.self ≡ noted_at c.mark-place.result (record w { fixed = reverse rest }) n = search rules in
-    let is : working c.note.new.self ≡ noted desk w n = e ∙ ap (λ fixed. record (noted_at c.mark-place.result w n) { fixed = fixed }) (sym back) ∙ ap (λ place. record (noted_at place w n) { fixed = given_back h.number w.fixed }) c.mark-place.ensures in
+    let is : working c.note.new.self ≡ with_note desk w n = e ∙ ap (λ fixed. record (noted_at c.mark-place.result w n) { fixed = fixed }) (sym back) ∙ ap (λ place. record (noted_at place w n) { fixed = given_back h.number w.fixed }) c.mark-place.ensures in
     let E : Working → Type 0 = λ after. Ending sense o start desk log after past commands in
     subst E (sym is) (ending_more sense o start desk log w past commands h (reverse rest) first so)
 

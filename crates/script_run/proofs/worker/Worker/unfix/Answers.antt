@@ -8,7 +8,7 @@ use Rattle.trail.specs.declared.event.Note.TheVariants as note
 use Rattle.trail.specs.declared.event.Call.TheVariants as call
 use Rattle.trail.specs.declared.event.Cause.TheVariants as cause
 use Rattle.script_text.specs.declared.script.Command.TheVariants as command
-use Rattle.script_run.specs.Work.{Working, Does, Along, noted_at, noted}
+use Rattle.script_run.specs.Work.{Working, Does, Along, noted_at, with_note}
 use Rattle.script_run.specs.Workers.{working}
 use Rattle.script_run.specs.Work.{senses}
 use Rattle.script_run.proofs.Fixes.{given_remove}
@@ -59,7 +59,7 @@ returns g c =
       done = λ o start log past so stands.
           let W : Working → Type 0 = λ after. Does sense o start desk log after past (command.Unfix p) in
           let back : reverse c.remove-held.new.self.items ≡ given_back h.number w.fixed = ap reverse left ∙ sym (given_remove items at h w.next read so.falling) in
-          let is : working (record c.note-2.new.self { fixed = c.remove-held.new.self }) ≡ noted desk w n =
+          let is : working (record c.note-2.new.self { fixed = c.remove-held.new.self }) ≡ with_note desk w n =
           ap (λ (x : Working). record x { fixed = reverse c.remove-held.new.self.items }) e ∙ ap (λ fixed. record (noted_at c.mark-place.result w n) { fixed = fixed }) back
           ∙ ap (λ place. record (noted_at place w n) { fixed = given_back h.number w.fixed }) c.mark-place.ensures in
           subst W (sym is) (does_unfix sense o start desk log w past p h so newest);

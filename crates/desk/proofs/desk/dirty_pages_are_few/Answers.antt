@@ -1,0 +1,5 @@
+use Rattle.desk.proofs.Dirt.{length-dirty}
+use Rattle.desk.proofs.desk.dirty_pages_are_few.Goals as goal
+
+pub returns : goal.returns
+returns c = length-dirty

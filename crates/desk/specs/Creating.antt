@@ -1,0 +1,129 @@
+-- What a create does, and why it is refused.
+use Rattle.std.specs.Prelude.{ℕ, Bool, List, ◌≡◌, ◌+◌, ◌<◌, ◌≤◌, ◌^◌, ◌⊎◌, ⊤, Option, None, Some, IfSome, length, replicate, slice_set}
+use Rattle.page_ids.specs.Content.{Content}
+use Rattle.page_ids.specs.Size.{page_bytes}
+use Rattle.page_ids.specs.declared.ids.PageId.{PageId}
+use Rattle.page_disk.specs.Disks.{pages_in}
+use Rattle.redo_mark.specs.Device.{Told}
+use Rattle.redo_mark.specs.Logs as log
+use Rattle.trail.specs.declared.event.Call.TheVariants as call
+use Rattle.trail.specs.declared.event.Cause.TheVariants as cause
+use Rattle.trail.specs.declared.event.Kind.TheVariants as kind
+use Rattle.trail.specs.Places.{mark}
+use Rattle.trail.specs.Book.{book, next_frame}
+use Rattle.trail.specs.History.{home}
+use Rattle.frame_words.specs.Rows.{Row, laid_row, published_row, held_row}
+use Rattle.frame_words.specs.Seen.{FramesSeen}
+use Rattle.desk.specs.Base.{Opened}
+use Rattle.desk.specs.Behind.{IsBehind}
+use Rattle.desk.specs.Changes.{LeavesDesk}
+use Rattle.desk.specs.Claimed.{KeepsLog}
+use Rattle.desk.specs.Fixing.{IsHeldFull, IsUnseated, IsUnwritten}
+use Rattle.desk.specs.State.{State}
+use Rattle.desk.specs.Steps.{IsAppended, IsRefused, IsOutside, row_in}
+use Rattle.desk.specs.Ledger.{IsVacant}
+use Rattle.desk.specs.Tied.{AreTied}
+use Rattle.desk.specs.Victims.{IsHad, AreSettled, MustWrite, MustCover}
+use Rattle.desk.specs.declared.calls.Caller.{Caller}
+use Rattle.desk.specs.declared.calls.Granted.{Granted}
+use Rattle.desk.specs.declared.calls.CreateErr.{CreateErr}
+use Rattle.desk.specs.declared.calls.CreateErr.TheVariants as refusal
+use Rattle.desk.specs.declared.calls.FrameErr.{FrameErr}
+use Rattle.desk.specs.declared.calls.FrameErr.TheVariants as unhad
+
+-- a page of zeros with this LSN
+abbrev pub blank_at : ℕ → ℕ → Content
+blank_at size lsn = record { lsn = lsn; bytes = replicate size 0 }
+
+-- a blank page was laid into the frame, published there at this clock, and fixed
+abbrev pub made_row : Row → PageId → Content → ℕ → Row
+made_row r p content clock = held_row (published_row (laid_row r content) p clock)
+
+-- The page was made in the next frame, and its record, of 21 bytes, starts at this LSN. No device was used. The frame has one fix more.
+pub record IsMade {D : Type 0} (old new : State D) (rows rows' : List Row) (by : Caller) (p : PageId) (now start : ℕ) (g : Granted) : Type 0 where
+  pub absent : home old.history p ≡ None
+  pub below : g.frame < old.config.frames
+  pub fresh : IsVacant old.history g.frame
+  pub frame : next_frame (book old.config old.history) ≡ Some g.frame
+  pub place : g.place ≡ mark old.config.first old.history + 1
+  pub clock : g.clock ≡ g.place
+  pub entry : IsAppended old new by (kind.Create p g.frame start (start + 21) now)
+  pub disk : new.disk ≡ old.disk
+  pub rows_are : rows' ≡ slice_set rows g.frame (made_row (row_in rows g.frame) p (blank_at (page_bytes old.config.page) (start + 21)) g.place)
+
+-- a frame was had, and the page was made in it; the log's end went from `first` to `last`
+pub record IsCreatedBy {D : Type 0} (old new : State D) (rows rows' : List Row) (by : Caller) (p : PageId) (now first last : ℕ) (g : Granted) : Type 0 where
+  pub absent : home old.history p ≡ None
+  pub had : State D
+  pub cleared : List Row
+  pub frame_is : IsHad old had rows cleared by g.frame
+  pub start : ℕ
+  pub known : (first ≤ start) × (start + 21 ≤ last)
+  pub made : IsMade had new cleared rows' by p now start g
+
+-- the page is resident; nothing else happened
+pub record IsAtHome {D : Type 0} (old new : State D) (by : Caller) (p : PageId) (now f : ℕ) : Type 0 where
+  pub resident : home old.history p ≡ Some f
+  pub entry : IsRefused old new by (call.Create p now) (cause.Resident f)
+  pub disk : new.disk ≡ old.disk
+
+-- a frame was had; the log ended here at the refusal, and the record would end above 2^63
+pub record IsUncreated {D : Type 0} (old new : State D) (rows rows' : List Row) (by : Caller) (p : PageId) (now first last end : ℕ) : Type 0 where
+  pub absent : home old.history p ≡ None
+  pub had : State D
+  pub frame : ℕ
+  pub frame_is : IsHad old had rows rows' by frame
+  pub known : (first ≤ end) × (end ≤ last)
+  pub beyond : 2 ^ 63 < end + 21
+  pub entry : IsRefused had new by (call.Create p now) (cause.LogSpent end)
+  pub disk : new.disk ≡ had.disk
+
+-- Why a create was refused, and what stands then: nothing has changed, or the refusal was appended. The log was durable up to `durable`, its end went from
+-- `first` to `last`, and its count of faults from `was` to `is`.
+abbrev pub IsCreateRefusal : {D : Type 0} → (D → ℕ → Option ℕ) → (D → ℕ) → State D → State D → List Row → List Row → Caller → ℕ → PageId → ℕ → ℕ → ℕ → ℕ → ℕ → ℕ → CreateErr → Type 0
+IsCreateRefusal spaces faults old new rows rows' by held p now durable first last was is refusal.OutOfMemory = (new ≡ old) × (rows' ≡ rows)
+IsCreateRefusal spaces faults old new rows rows' by held p now durable first last was is (refusal.NoSuchPage pages) = IsOutside spaces old new by p (call.Create p now) pages × (rows' ≡ rows)
+IsCreateRefusal spaces faults old new rows rows' by held p now durable first last was is (refusal.HoldFull full) =
+    (p.page < pages_in (spaces old.disk) p.space) × IsHeldFull old new by (call.Create p now) held full × (rows' ≡ rows)
+IsCreateRefusal spaces faults old new rows rows' by held p now durable first last was is (refusal.Resident f) =
+    (p.page < pages_in (spaces old.disk) p.space) × (held < 64) × IsAtHome old new by p now f × (rows' ≡ rows)
+IsCreateRefusal spaces faults old new rows rows' by held p now durable first last was is (refusal.AllFixed seen) =
+    (p.page < pages_in (spaces old.disk) p.space) × (held < 64) × IsUnseated old new rows by p (call.Create p now) seen × (rows' ≡ rows)
+IsCreateRefusal spaces faults old new rows rows' by held p now durable first last was is (refusal.RedoFault before after) =
+    (p.page < pages_in (spaces old.disk) p.space) × (held < 64)
+    × IsUnwritten old new by p (call.Create p now) was is before after (cause.RedoFault before after) × (rows' ≡ rows) × MustCover old rows durable × (new.disk ≡ old.disk)
+IsCreateRefusal spaces faults old new rows rows' by held p now durable first last was is (refusal.DiskFault before after) =
+    (p.page < pages_in (spaces old.disk) p.space) × (held < 64)
+    × IsUnwritten old new by p (call.Create p now) (faults old.disk) (faults new.disk) before after (cause.DiskFault before after) × (rows' ≡ rows) × MustWrite old rows
+IsCreateRefusal spaces faults old new rows rows' by held p now durable first last was is (refusal.LogSpent end) =
+    (p.page < pages_in (spaces old.disk) p.space) × (held < 64) × IsUncreated old new rows rows' by p now first last end
+
+-- why a create is refused for which no frame was had
+abbrev pub create_err_of : FrameErr → CreateErr
+create_err_of unhad.OutOfMemory = refusal.OutOfMemory
+create_err_of (unhad.AllFixed seen) = refusal.AllFixed seen
+create_err_of (unhad.RedoFault before after) = refusal.RedoFault before after
+create_err_of (unhad.DiskFault before after) = refusal.DiskFault before after
+
+-- the log is as it was at a refusal for which no frame was had, but for a device's fault
+abbrev pub IsUnused : {L : Type 0} → L → L → CreateErr → Type 0
+IsUnused old new refusal.OutOfMemory = new ≡ old
+IsUnused old new (refusal.NoSuchPage pages) = new ≡ old
+IsUnused old new (refusal.HoldFull held) = new ≡ old
+IsUnused old new (refusal.Resident f) = new ≡ old
+IsUnused old new (refusal.AllFixed seen) = new ≡ old
+IsUnused old new (refusal.RedoFault before after) = ⊤
+IsUnused old new (refusal.DiskFault before after) = ⊤
+IsUnused old new (refusal.LogSpent end) = ⊤
+
+-- what a desk, its frames and its log are behind a create
+pub record LeavesAll {D R : Type 0} (size : D → ℕ) (tells : D → Bool) (told : D → PageId → Option (List ℕ)) (spaces : D → ℕ → Option ℕ) (faults : D → ℕ) (logged : R → Option Told)
+    (old new : State D) (s t : FramesSeen) (was is : log.State R) : Type 0 where
+  pub count : length new.history ≤ length old.history + 3
+  pub tied : AreTied tells told spaces t new
+  pub settled : AreSettled t.rows
+  pub desk : LeavesDesk size tells spaces faults old new
+  pub log : KeepsLog logged was is old.history new.history
+  -- the log's device was used only where the log had to be made durable
+  pub covered : (is.disk ≡ was.disk) ⊎ MustCover old s.rows was.seen.durable
+  pub behind : (o : Opened) → IfSome s.base (λ base. base ≡ o.base) → IsBehind tells told spaces o old s → IsBehind tells told spaces o new t

@@ -1,0 +1,67 @@
+//! The checkpoint: from where a redo would have to begin.
+ghost use Rattle.std.specs.Prelude.{◌≡◌, ◌<◌, ◌≤◌, ◌+◌, ◌^◌, OnErr, IfOk, length};
+ghost use Rattle.trail.specs.Dirt.{dirty, log_end};
+ghost use Rattle.frame_words.specs.Appends.{appended};
+ghost use Rattle.frame_words.specs.Seen.{FramesSeen};
+ghost use Rattle.desk.specs.Base.{Opened};
+ghost use Rattle.desk.specs.Behind.{IsBehind};
+ghost use Rattle.desk.specs.Checks.{IsChecked, redo_start};
+ghost use Rattle.desk.specs.Logged.{IsLogged};
+ghost use Rattle.desk.specs.Steps.{IsAppended, next_entry};
+ghost use Rattle.desk.specs.Tied.{AreTied};
+
+use crate::calls::{CallErr, Caller};
+use crate::desk::Desk;
+use page_disk::PageDisk;
+use redo_mark::{Redo, RedoDisk};
+use trail::Kind;
+
+impl<D: PageDisk> Desk<D> {
+    /// The oldest LSN of the dirty pages; where none is dirty, the log's end.
+    fn checkpoint<R: RedoDisk>(&self, redo: &Redo<R>) -> u64
+        requires known { log_end self.now.state.history ≤ redo.now.seen.end }
+        ensures lsn { result ≡ redo_start (dirty self.now.state.history) redo.now.seen.end }
+        ensures early { result ≤ redo.now.seen.end }
+    {
+        match self.lists.oldest() {
+            Some(first) => first.oldest,
+            None => redo.end(),
+        }
+    }
+
+    /// Appends a checkpoint to the desk's history alone.
+    fn append_check(&mut self, by: Caller, lsn: u64)
+        requires places { self.old.state.config.first + length self.old.state.history + 1 < 2 ^ 48 }
+        requires room { 0 < self.old.room }
+        ensures appended { IsAppended self.old.state self.new.state by (Kind.Check lsn) }
+        ensures disk { self.new.state.disk ≡ self.old.state.disk }
+    {
+        let entry = self.lists.next(by, Kind::Check { lsn });
+        self.lists.append(entry);
+    }
+
+    /// Answers from where a redo would have to begin (buf0flu's `buf_pool_get_oldest_modification_approx`): the oldest LSN of the dirty
+    /// pages; where none is dirty, the log's end.
+    ///
+    /// Appends the entry `checkpoint`. Neither the disk nor the log is used. Where frames tell the history, their holder appends the entry to
+    /// it too: then they are tied to the desk as before.
+    pub fn check_at<R: RedoDisk>(&mut self, redo: &Redo<R>, by: Caller) -> Result<u64, CallErr>
+        requires places { self.old.state.config.first + length self.old.state.history + 1 < 2 ^ 48 }
+        requires known { log_end self.old.state.history ≤ redo.now.seen.end }
+        ensures ok { IfOk result (λ lsn. IsChecked self.old.state self.new.state by redo.now.seen.end lsn) }
+        ensures refused { OnErr result (self.new.state ≡ self.old.state) }
+        ensures logged { IsLogged redo.now.seen self.old.state.history → IsLogged redo.now.seen self.new.state.history }
+        ensures known { log_end self.new.state.history ≤ redo.now.seen.end }
+        ensures tied { IfOk result (λ lsn. (s : FramesSeen) → AreTied D.tells D.told D.space_pages s self.old.state
+            → AreTied D.tells D.told D.space_pages (appended s (next_entry self.old.state by (Kind.Check lsn))) self.new.state) }
+        ensures behind { IfOk result (λ lsn. (o : Opened) (s : FramesSeen) → IsBehind D.tells D.told D.space_pages o self.old.state s
+            → IsBehind D.tells D.told D.space_pages o self.new.state (appended s (next_entry self.old.state by (Kind.Check lsn)))) }
+    {
+        if self.room_for(1).is_err() {
+            return Err(CallErr::OutOfMemory);
+        }
+        let lsn = self.checkpoint(redo);
+        self.append_check(by, lsn);
+        Ok(lsn)
+    }
+}

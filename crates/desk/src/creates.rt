@@ -1,0 +1,325 @@
+//! The create: a page is made new and blank in a frame that was had for it, logged first, and a fix of it is granted.
+ghost use Rattle.std.specs.Prelude.{◌≡◌, ◌<◌, ◌≤◌, ◌+◌, ◌^◌, ◌⊎◌, [], ℕ, Some, None, false, IsErr, OnOk, OnErr, IfOk, IfErr, IfSome, length};
+ghost use Rattle.page_ids.specs.Size.{page_bytes};
+ghost use Rattle.page_disk.specs.Disks.{pages_in, IsInside};
+ghost use Rattle.redo_mark.specs.Logs.{IsLater, IsKept};
+ghost use Rattle.redo_mark.specs.Records.{head_of};
+ghost use Rattle.trail.specs.Book.{book, next_frame};
+ghost use Rattle.trail.specs.Dirt.{is_dirty, log_end};
+ghost use Rattle.trail.specs.History.{home};
+ghost use Rattle.trail.specs.Places.{mark};
+ghost use Rattle.frame_words.specs.Rows.{laid_row};
+ghost use Rattle.frame_words.specs.Seen.{KeepsRoom, row_at, with_row};
+ghost use Rattle.desk.specs.Base.{Opened};
+ghost use Rattle.desk.specs.Behind.{IsBehind};
+ghost use Rattle.desk.specs.Changes.{LeavesDesk};
+ghost use Rattle.desk.specs.Creating.{IsMade, IsCreatedBy, IsCreateRefusal, IsUnused, LeavesAll, create_err_of, blank_at};
+ghost use Rattle.desk.specs.Ledger.{IsVacant};
+ghost use Rattle.desk.specs.Loads.{MayFix};
+ghost use Rattle.desk.specs.Logged.{IsLogged, IsMarkBehind, AreUpTo, create_change};
+ghost use Rattle.desk.specs.Making.{shown};
+ghost use Rattle.desk.specs.Steps.{IsAppended, next_entry};
+ghost use Rattle.desk.specs.Tied.{AreTied, HasTurn, IsOwn};
+ghost use Rattle.desk.specs.Victims.{AreSettled, MustCover};
+
+use crate::calls::{Caller, CreateErr, FrameErr, Granted};
+use crate::desk::Desk;
+use frame_words::Frames;
+use page_disk::PageDisk;
+use page_ids::{Bytes, OutOfMemory, PageId};
+use redo_mark::{Change, ChangeKind, Draft, LogSpent, Redo, RedoDisk, Span};
+use std::alloc::{AllocError, Global};
+use trail::{Call, Cause, Kind};
+
+impl<D: PageDisk> Desk<D> {
+    /// Lays a blank page with this LSN into a frame that is no page's home.
+    fn lay_blank<F: Frames>(&self, frames: &mut F, frame: u32, lsn: u64)
+        requires below { frame < self.now.state.config.frames }
+        requires vacant { IsVacant self.now.state.history frame }
+        requires tied { AreTied D.tells D.told D.space_pages (F.seen frames.old) self.now.state }
+        ensures seen { F.seen frames.new ≡ with_row (F.seen frames.old) frame
+            (laid_row (row_at (F.seen frames.old) frame) (blank_at (page_bytes self.now.state.config.page) lsn)) }
+        ensures image { (row_at (F.seen frames.new) frame).image ≡ Some (Some (blank_at (page_bytes self.now.state.config.page) lsn)) }
+        ensures tied { AreTied D.tells D.told D.space_pages (F.seen frames.new) self.now.state }
+        ensures fixes { KeepsRoom (F.room frames.old) (F.room frames.new) }
+    {
+        let mut image = frames.lift(frame);
+        image.clear(lsn);
+        frames.lay(frame, image);
+    }
+
+    /// Appends the entry of a blank page that lies in the next frame, and publishes it there at the entry's place.
+    fn show_made<F: Frames>(
+        &mut self,
+        frames: &mut F,
+        by: Caller,
+        page: PageId,
+        frame: u32,
+        now: u64,
+        span: Span,
+    ) -> u64
+        requires places { self.old.state.config.first + length self.old.state.history + 1 < 2 ^ 48 }
+        requires room { 0 < self.old.room }
+        requires inside { IsInside (D.space_pages self.old.state.disk) page }
+        requires below { frame < self.old.state.config.frames }
+        requires vacant { IsVacant self.old.state.history frame }
+        requires absent { home self.old.state.history page ≡ None }
+        requires next { next_frame (book self.old.state.config self.old.state.history) ≡ Some frame }
+        requires tied { AreTied D.tells D.told D.space_pages (F.seen frames.old) self.old.state }
+        requires caller { MayFix (F.seen frames.old) self.old.state by page }
+        requires span { (log_end self.old.state.history ≤ span.start) × (span.end ≡ span.start + 21) }
+        requires image { (row_at (F.seen frames.old) frame).image ≡ Some (Some (blank_at (page_bytes self.old.state.config.page) span.end)) }
+        ensures place { result ≡ mark self.old.state.config.first self.old.state.history + 1 }
+        ensures appended { IsAppended self.old.state self.new.state by (Kind.Create page frame span.start span.end now) }
+        ensures seen { F.seen frames.new ≡ shown (F.seen frames.old)
+            (next_entry self.old.state by (Kind.Create page frame span.start span.end now)) frame page result }
+        ensures room { self.old.room ≤ self.new.room + 1 }
+        ensures fixes { KeepsRoom (F.room frames.old) (F.room frames.new) }
+        ensures disk { self.new.state.disk ≡ self.old.state.disk }
+    {
+        let place = self.next_place();
+        self.append(
+            frames,
+            by,
+            Kind::Create {
+                page,
+                frame,
+                start: span.start,
+                end: span.end,
+                now,
+            },
+        );
+        frames.publish(frame, page, place);
+        place
+    }
+
+    /// Makes a page in the next frame: blank, published there, and fixed.
+    pub(crate) fn make<F: Frames>(
+        &mut self,
+        frames: &mut F,
+        by: Caller,
+        page: PageId,
+        frame: u32,
+        now: u64,
+        span: Span,
+    ) -> Granted
+        requires places { self.old.state.config.first + length self.old.state.history + 1 < 2 ^ 48 }
+        requires room { 0 < self.old.room }
+        requires inside { IsInside (D.space_pages self.old.state.disk) page }
+        requires below { frame < self.old.state.config.frames }
+        requires vacant { IsVacant self.old.state.history frame }
+        requires absent { home self.old.state.history page ≡ None }
+        requires clean { is_dirty self.old.state.history page ≡ false }
+        requires next { next_frame (book self.old.state.config self.old.state.history) ≡ Some frame }
+        requires fix { 0 < F.room frames.old frame }
+        requires tied { AreTied D.tells D.told D.space_pages (F.seen frames.old) self.old.state }
+        requires settled { AreSettled (F.seen frames.old).rows }
+        requires caller { MayFix (F.seen frames.old) self.old.state by page }
+        requires span { (log_end self.old.state.history ≤ span.start) × (span.end ≡ span.start + 21) }
+        ensures made { IsMade self.old.state self.new.state (F.seen frames.old).rows (F.seen frames.new).rows by page now span.start result }
+        ensures frame { result.frame ≡ frame }
+        ensures room { self.old.room ≤ self.new.room + 1 }
+        ensures tied { AreTied D.tells D.told D.space_pages (F.seen frames.new) self.new.state }
+        ensures settled { AreSettled (F.seen frames.new).rows }
+        ensures left { LeavesDesk D.page_size D.tells D.space_pages D.fault_count self.old.state self.new.state }
+        ensures behind { (o : Opened) → IfSome (F.seen frames.old).base (λ base. base ≡ o.base)
+            → IsBehind D.tells D.told D.space_pages o self.old.state (F.seen frames.old)
+            → IsBehind D.tells D.told D.space_pages o self.new.state (F.seen frames.new) }
+    {
+        self.lay_blank(frames, frame, span.end);
+        let place = self.show_made(frames, by, page, frame, now, span);
+        let _ = frames.visit(frame);
+        Granted {
+            frame,
+            clock: place,
+            place,
+        }
+    }
+
+    /// Makes room for the entries of a create.
+    fn reserve_create(&mut self) -> Result<(), AllocError>
+        ensures room { OnOk result (3 ≤ self.new.room) }
+        ensures same { self.new.state ≡ self.old.state }
+    {
+        self.lists.reserve(3)
+    }
+
+    /// Makes a page that is not resident: a frame is had for it, its record is appended to the log, and the page is made in the frame.
+    fn create_absent<F: Frames, R: RedoDisk>(
+        &mut self,
+        frames: &mut F,
+        redo: &mut Redo<R>,
+        by: Caller,
+        page: PageId,
+        now: u64,
+    ) -> Result<Granted, CreateErr>
+        requires places { self.old.state.config.first + length self.old.state.history + 3 < 2 ^ 48 }
+        requires room { 3 ≤ self.old.room }
+        requires inside { IsInside (D.space_pages self.old.state.disk) page }
+        requires absent { home self.old.state.history page ≡ None }
+        requires clean { is_dirty self.old.state.history page ≡ false }
+        requires tied { AreTied D.tells D.told D.space_pages (F.seen frames.old) self.old.state }
+        requires settled { AreSettled (F.seen frames.old).rows }
+        requires caller { MayFix (F.seen frames.old) self.old.state by page }
+        requires fixes { (f : ℕ) → f < length (F.seen frames.old).rows → 0 < F.room frames.old f }
+        requires known { log_end self.old.state.history ≤ redo.old.seen.end }
+        ensures created { IfOk result (λ g. IsCreatedBy self.old.state self.new.state (F.seen frames.old).rows (F.seen frames.new).rows by page now
+            redo.old.seen.end redo.new.seen.end g) }
+        ensures refused { IfErr result (λ e. (held : ℕ) → held < 64 → IsCreateRefusal D.space_pages D.fault_count self.old.state self.new.state
+            (F.seen frames.old).rows (F.seen frames.new).rows by held page now redo.old.seen.durable redo.old.seen.end redo.new.seen.end
+            redo.old.seen.faults redo.new.seen.faults e) }
+        ensures full { 2 ^ 63 < redo.old.seen.end + 21 → IsErr result }
+        ensures unused { IfErr result (λ e. IsUnused redo.old redo.new e) }
+        ensures leaves { LeavesAll D.page_size D.tells D.told D.space_pages D.fault_count R.told self.old.state self.new.state
+            (F.seen frames.old) (F.seen frames.new) redo.old redo.new }
+    {
+        let alloc = self.lists.allocator();
+        let Ok(draft) = create_draft(alloc, page) else {
+            return Err(CreateErr::OutOfMemory);
+        };
+        let call = Call::Create { page, now };
+        let frame = match self.have_frame(frames, redo, by, page, call) {
+            Ok(frame) => frame,
+            Err(error) => return Err(create_err(error)),
+        };
+        match redo.append(draft) {
+            Ok(span) => Ok(self.make(frames, by, page, frame, now, span)),
+            Err(LogSpent { end }) => {
+                let call = Call::Create { page, now };
+                self.refuse(frames, by, page, call, Cause::LogSpent { end });
+                Err(CreateErr::LogSpent { end })
+            }
+        }
+    }
+
+    /// Makes a page, where there is room for the entries.
+    fn create_reserved<F: Frames, R: RedoDisk>(
+        &mut self,
+        frames: &mut F,
+        redo: &mut Redo<R>,
+        by: Caller,
+        held: u32,
+        page: PageId,
+        now: u64,
+    ) -> Result<Granted, CreateErr>
+        requires places { self.old.state.config.first + length self.old.state.history + 3 < 2 ^ 48 }
+        requires entries { 3 ≤ self.old.room }
+        requires tied { AreTied D.tells D.told D.space_pages (F.seen frames.old) self.old.state }
+        requires settled { AreSettled (F.seen frames.old).rows }
+        requires turn { HasTurn (F.seen frames.old) by }
+        requires own { IsOwn (F.seen frames.old) self.old.state page }
+        requires held { IfSome (F.seen frames.old).opened (λ opened. (length opened ≡ held) × (held ≤ 64)) }
+        requires room { held < 64 → (f : ℕ) → f < length (F.seen frames.old).rows → 0 < F.room frames.old f }
+        requires known { log_end self.old.state.history ≤ redo.old.seen.end }
+        ensures created { IfOk result (λ g. IsCreatedBy self.old.state self.new.state (F.seen frames.old).rows (F.seen frames.new).rows by page now
+            redo.old.seen.end redo.new.seen.end g) }
+        ensures inside { IfOk result (λ g. page.page < pages_in (D.space_pages self.old.state.disk) page.space) }
+        ensures few { OnOk result (held < 64) }
+        ensures refused { IfErr result (λ e. IsCreateRefusal D.space_pages D.fault_count self.old.state self.new.state
+            (F.seen frames.old).rows (F.seen frames.new).rows by held page now redo.old.seen.durable redo.old.seen.end redo.new.seen.end
+            redo.old.seen.faults redo.new.seen.faults e) }
+        ensures full { 2 ^ 63 < redo.old.seen.end + 21 → IsErr result }
+        ensures unused { IfErr result (λ e. IsUnused redo.old redo.new e) }
+        ensures leaves { LeavesAll D.page_size D.tells D.told D.space_pages D.fault_count R.told self.old.state self.new.state
+            (F.seen frames.old) (F.seen frames.new) redo.old redo.new }
+    {
+        let pages = self.pages(page.space);
+        if page.page >= pages {
+            let call = Call::Create { page, now };
+            self.refuse(frames, by, page, call, Cause::NoSuchPage { pages });
+            return Err(CreateErr::NoSuchPage { pages });
+        }
+        if held >= 64 {
+            let call = Call::Create { page, now };
+            self.refuse(frames, by, page, call, Cause::HoldFull { held });
+            return Err(CreateErr::HoldFull { held });
+        }
+        match self.home_of(page) {
+            Some(frame) => {
+                let call = Call::Create { page, now };
+                self.refuse(frames, by, page, call, Cause::Resident { frame });
+                Err(CreateErr::Resident { frame })
+            }
+            None => self.create_absent(frames, redo, by, page, now),
+        }
+    }
+
+    /// Makes a page of zeros in a free frame or in that of a victim, which is written first where it is dirty, logs that, and fixes the page
+    /// (buf0buf's `buf_page_create`). Nothing is read from the disk. A resident page is refused. The caller holds so many fixes, which may be
+    /// no more than 64.
+    ///
+    /// Appends the entries `write`, `evict` and `create`, each where it happens; or the refusal, behind the entries of a victim that had
+    /// left. Memory is taken before anything changes; want of memory changes nothing.
+    pub fn create_at<F: Frames, R: RedoDisk>(
+        &mut self,
+        frames: &mut F,
+        redo: &mut Redo<R>,
+        by: Caller,
+        held: u32,
+        page: PageId,
+        now: u64,
+    ) -> Result<Granted, CreateErr>
+        requires places { self.old.state.config.first + length self.old.state.history + 3 < 2 ^ 48 }
+        requires tied { AreTied D.tells D.told D.space_pages (F.seen frames.old) self.old.state }
+        requires settled { AreSettled (F.seen frames.old).rows }
+        requires turn { HasTurn (F.seen frames.old) by }
+        requires own { IsOwn (F.seen frames.old) self.old.state page }
+        requires held { IfSome (F.seen frames.old).opened (λ opened. (length opened ≡ held) × (held ≤ 64)) }
+        requires room { held < 64 → (f : ℕ) → f < length (F.seen frames.old).rows → 0 < F.room frames.old f }
+        requires known { log_end self.old.state.history ≤ redo.old.seen.end }
+        ensures created { IfOk result (λ g. IsCreatedBy self.old.state self.new.state (F.seen frames.old).rows (F.seen frames.new).rows by page now
+            redo.old.seen.end redo.new.seen.end g) }
+        ensures inside { IfOk result (λ g. page.page < pages_in (D.space_pages self.old.state.disk) page.space) }
+        ensures few { OnOk result (held < 64) }
+        ensures refused { IfErr result (λ e. IsCreateRefusal D.space_pages D.fault_count self.old.state self.new.state
+            (F.seen frames.old).rows (F.seen frames.new).rows by held page now redo.old.seen.durable redo.old.seen.end redo.new.seen.end
+            redo.old.seen.faults redo.new.seen.faults e) }
+        ensures full { 2 ^ 63 < redo.old.seen.end + 21 → IsErr result }
+        ensures covered { (redo.new.disk ≡ redo.old.disk) ⊎ MustCover self.old.state (F.seen frames.old).rows redo.old.seen.durable }
+        ensures marks { IsMarkBehind redo.old.seen redo.new.seen.durable }
+        ensures unused { IfErr result (λ e. IsUnused redo.old redo.new e) }
+        ensures tied { AreTied D.tells D.told D.space_pages (F.seen frames.new) self.new.state }
+        ensures settled { AreSettled (F.seen frames.new).rows }
+        ensures grown { length self.new.state.history ≤ length self.old.state.history + 3 }
+        ensures left { LeavesDesk D.page_size D.tells D.space_pages D.fault_count self.old.state self.new.state }
+        ensures logged { IsLogged redo.old.seen self.old.state.history → IsLogged redo.new.seen self.new.state.history }
+        ensures known { log_end self.new.state.history ≤ redo.new.seen.end }
+        ensures upto { AreUpTo redo.new.seen.durable self.old.state.history self.new.state.history }
+        ensures later { IsLater redo.old.seen redo.new.seen }
+        ensures opening { redo.new.opening ≡ redo.old.opening }
+        ensures kept { IsKept redo.old.seen (R.told redo.old.disk) → IsKept redo.new.seen (R.told redo.new.disk) }
+        ensures behind { (o : Opened) → IfSome (F.seen frames.old).base (λ base. base ≡ o.base)
+            → IsBehind D.tells D.told D.space_pages o self.old.state (F.seen frames.old)
+            → IsBehind D.tells D.told D.space_pages o self.new.state (F.seen frames.new) }
+    {
+        if self.reserve_create().is_err() {
+            return Err(CreateErr::OutOfMemory);
+        }
+        self.create_reserved(frames, redo, by, held, page, now)
+    }
+}
+
+/// The draft of a create's record.
+fn create_draft(alloc: Global, page: PageId) -> Result<Draft, OutOfMemory>
+    ensures { IfOk result (λ d. d ≡ head_of (create_change page)) }
+{
+    let change = Change {
+        page,
+        kind: ChangeKind::Create,
+        at: 0,
+        bytes: Bytes::of(Vec::new(alloc)),
+    };
+    Draft::of(alloc, &change)
+}
+
+/// Why a create is refused for which no frame was had.
+fn create_err(error: FrameErr) -> CreateErr
+    ensures { result ≡ create_err_of error }
+{
+    match error {
+        FrameErr::OutOfMemory => CreateErr::OutOfMemory,
+        FrameErr::AllFixed { seen } => CreateErr::AllFixed { seen },
+        FrameErr::RedoFault { before, after } => CreateErr::RedoFault { before, after },
+        FrameErr::DiskFault { before, after } => CreateErr::DiskFault { before, after },
+    }
+}

@@ -1,0 +1,374 @@
+//! The fix: a page that is not resident is read into a frame, and a fix is granted or refused.
+ghost use Rattle.std.specs.Prelude.{◌≡◌, ◌<◌, ◌≤◌, ◌+◌, ◌^◌, ◌⊎◌, ℕ, Some, None, Err, OnOk, OnErr, IfOk, IfErr, IfSome, IsSome, length, slice_set, false};
+ghost use Rattle.page_ids.specs.Content.{Content};
+ghost use Rattle.page_ids.specs.declared.layout.BadPage.{BadPage};
+ghost use Rattle.page_disk.specs.Disks.{pages_in, IsInside, IsSameDisk};
+ghost use Rattle.trail.specs.Places.{mark};
+ghost use Rattle.trail.specs.History.{home, value};
+ghost use Rattle.trail.specs.Book.{book, next_frame};
+ghost use Rattle.trail.specs.Dirt.{is_dirty, log_end};
+ghost use Rattle.redo_mark.specs.Logs.{IsLater, IsKept};
+ghost use Rattle.frame_words.specs.Rows.{published_row};
+ghost use Rattle.frame_words.specs.Seen.{row_at, KeepsRoom};
+ghost use Rattle.desk.specs.Base.{Opened};
+ghost use Rattle.desk.specs.Behind.{IsBehind};
+ghost use Rattle.desk.specs.Changes.{LeavesDesk};
+ghost use Rattle.desk.specs.Claimed.{KeepsLog};
+ghost use Rattle.desk.specs.Fixing.{IsMiss, IsGrantedBy, IsFixRefusal, NeedsNoVictim, IsUnlogged, fix_err_of};
+ghost use Rattle.desk.specs.Ledger.{IsVacant};
+ghost use Rattle.desk.specs.Loads.{MayFix, MayRefuse, IsRead, IsInImage, IsOneMore};
+ghost use Rattle.desk.specs.Logged.{IsLogged, IsMarkBehind, AreUpTo};
+ghost use Rattle.desk.specs.Reads.{IsReadRefusal};
+ghost use Rattle.desk.specs.Steps.{IsAppended, IsRefused, IsLoaded, IsHit, IsLoadRefusal};
+ghost use Rattle.desk.specs.Tied.{AreTied, HasTurn, IsOwn};
+ghost use Rattle.desk.specs.Victims.{AreSettled, MustCover, AsksFor};
+
+use crate::calls::{Caller, FixErr, FrameErr, Granted};
+use crate::desk::Desk;
+use crate::parts::{ReadErr, read_page};
+use frame_words::Frames;
+use page_disk::PageDisk;
+use page_ids::{OutOfMemory, PageId};
+use redo_mark::{Redo, RedoDisk};
+use std::alloc::AllocError;
+use trail::{Call, Cause, Kind};
+
+impl<D: PageDisk> Desk<D> {
+    /// How many pages the space has, 0 where there is no such space.
+    pub(crate) fn pages(&self, space: u32) -> u32
+        ensures { result ≡ pages_in (D.space_pages self.now.state.disk) space }
+    {
+        self.disk.pages(space).unwrap_or(0)
+    }
+
+    /// The frame that a page is in.
+    pub(crate) fn home_of(&self, page: PageId) -> Option<u32>
+        ensures home { result ≡ home self.now.state.history page }
+        ensures below { IfSome result (λ f. f < self.now.state.config.frames) }
+        ensures clean { result ≡ None → is_dirty self.now.state.history page ≡ false }
+    {
+        self.lists.home(page)
+    }
+
+    /// Makes room for the entries of a fix.
+    fn reserve_fix(&mut self) -> Result<(), AllocError>
+        ensures room { OnOk result (4 ≤ self.new.room) }
+        ensures same { self.new.state ≡ self.old.state }
+    {
+        self.lists.reserve(4)
+    }
+
+    /// Reads a page into a frame that has none.
+    fn read_in<F: Frames>(
+        &mut self,
+        frames: &mut F,
+        page: PageId,
+        frame: u32,
+    ) -> Result<(), ReadErr>
+        requires inside { IsInside (D.space_pages self.old.state.disk) page }
+        requires below { frame < self.old.state.config.frames }
+        requires vacant { IsVacant self.old.state.history frame }
+        requires tied { AreTied D.tells D.told D.space_pages (F.seen frames.old) self.old.state }
+        ensures ok { OnOk result (IsRead (D.told self.old.state.disk page) (F.seen frames.old) (F.seen frames.new) page frame) }
+        ensures err { OnErr result (F.seen frames.new ≡ F.seen frames.old) }
+        ensures refused { IfErr result (λ e. IsReadRefusal (D.told self.old.state.disk page)
+            (D.fault_count self.old.state.disk) (D.fault_count self.new.state.disk) page e) }
+        ensures config { self.new.state.config ≡ self.old.state.config }
+        ensures instance { self.new.state.instance ≡ self.old.state.instance }
+        ensures history { self.new.state.history ≡ self.old.state.history }
+        ensures room { self.new.room ≡ self.old.room }
+        ensures fixes { KeepsRoom (F.room frames.old) (F.room frames.new) }
+        ensures tied { AreTied D.tells D.told D.space_pages (F.seen frames.new) self.new.state }
+        ensures disk { IsSameDisk D.page_size D.tells D.told D.space_pages D.fault_count self.old.state.disk self.new.state.disk }
+        ensures behind { (o : Opened) → IsBehind D.tells D.told D.space_pages o self.old.state (F.seen frames.old)
+            → IsBehind D.tells D.told D.space_pages o self.new.state (F.seen frames.new) }
+    {
+        let mut image = frames.lift(frame);
+        let read = read_page(&mut self.disk, page, &mut self.buffer, &mut image);
+        frames.lay(frame, image);
+        read
+    }
+
+    /// Makes the next frame the home of a page that was read into it.
+    fn take_in<F: Frames>(&mut self, frames: &mut F, by: Caller, page: PageId, frame: u32)
+        requires places { self.old.state.config.first + length self.old.state.history + 1 < 2 ^ 48 }
+        requires room { 0 < self.old.room }
+        requires inside { IsInside (D.space_pages self.old.state.disk) page }
+        requires below { frame < self.old.state.config.frames }
+        requires vacant { IsVacant self.old.state.history frame }
+        requires absent { home self.old.state.history page ≡ None }
+        requires clean { is_dirty self.old.state.history page ≡ false }
+        requires next { next_frame (book self.old.state.config self.old.state.history) ≡ Some frame }
+        requires tied { AreTied D.tells D.told D.space_pages (F.seen frames.old) self.old.state }
+        requires caller { MayFix (F.seen frames.old) self.old.state by page }
+        requires image { (content : Content) × IsInImage (D.told self.old.state.disk page) (F.seen frames.old) page frame content }
+        ensures appended { IsAppended self.old.state self.new.state by (Kind.Load page frame) }
+        ensures rows { (F.seen frames.new).rows ≡ slice_set (F.seen frames.old).rows frame
+            (published_row (row_at (F.seen frames.old) frame) page (mark self.old.state.config.first self.old.state.history + 1)) }
+        ensures room { self.old.room ≤ self.new.room + 1 }
+        ensures fixes { KeepsRoom (F.room frames.old) (F.room frames.new) }
+        ensures caller { MayFix (F.seen frames.new) self.new.state by page }
+        ensures tied { AreTied D.tells D.told D.space_pages (F.seen frames.new) self.new.state }
+        ensures disk { self.new.state.disk ≡ self.old.state.disk }
+        ensures behind { (o : Opened) → IfSome (F.seen frames.old).base (λ base. base ≡ o.base)
+            → IsBehind D.tells D.told D.space_pages o self.old.state (F.seen frames.old)
+            → IsBehind D.tells D.told D.space_pages o self.new.state (F.seen frames.new) }
+    {
+        let place = self.lists.mark() + 1;
+        self.append(frames, by, Kind::Load { page, frame });
+        frames.publish(frame, page, place);
+    }
+
+    /// Reads a page that is not resident into the frame that was had for it.
+    fn load<F: Frames>(
+        &mut self,
+        frames: &mut F,
+        by: Caller,
+        page: PageId,
+        frame: u32,
+        now: u64,
+    ) -> Result<(), FixErr>
+        requires places { self.old.state.config.first + length self.old.state.history + 1 < 2 ^ 48 }
+        requires room { 0 < self.old.room }
+        requires inside { IsInside (D.space_pages self.old.state.disk) page }
+        requires next { next_frame (book self.old.state.config self.old.state.history) ≡ Some frame }
+        requires below { frame < self.old.state.config.frames }
+        requires vacant { IsVacant self.old.state.history frame }
+        requires absent { home self.old.state.history page ≡ None }
+        requires clean { is_dirty self.old.state.history page ≡ false }
+        requires tied { AreTied D.tells D.told D.space_pages (F.seen frames.old) self.old.state }
+        requires settled { AreSettled (F.seen frames.old).rows }
+        requires caller { MayFix (F.seen frames.old) self.old.state by page }
+        ensures ok { OnOk result (IsLoaded D.told self.old.state self.new.state (F.seen frames.old).rows (F.seen frames.new).rows by page frame) }
+        ensures room { OnOk result (self.old.room ≤ self.new.room + 1) }
+        ensures fixes { OnOk result (KeepsRoom (F.room frames.old) (F.room frames.new)) }
+        ensures caller { OnOk result (MayFix (F.seen frames.new) self.new.state by page) }
+        ensures refused { IfErr result (λ e. IsLoadRefusal D.told D.fault_count self.old.state self.new.state by page now e) }
+        ensures unmoved { OnErr result ((F.seen frames.new).rows ≡ (F.seen frames.old).rows) }
+        ensures tied { AreTied D.tells D.told D.space_pages (F.seen frames.new) self.new.state }
+        ensures settled { AreSettled (F.seen frames.new).rows }
+        ensures more { IsOneMore self.old.state.history self.new.state.history }
+        ensures left { LeavesDesk D.page_size D.tells D.space_pages D.fault_count self.old.state self.new.state }
+        ensures behind { (o : Opened) → IfSome (F.seen frames.old).base (λ base. base ≡ o.base)
+            → IsBehind D.tells D.told D.space_pages o self.old.state (F.seen frames.old)
+            → IsBehind D.tells D.told D.space_pages o self.new.state (F.seen frames.new) }
+    {
+        match self.read_in(frames, page, frame) {
+            Ok(()) => {
+                self.take_in(frames, by, page, frame);
+                Ok(())
+            }
+            Err(ReadErr::DiskFault { before, after }) => {
+                let call = Call::Fix { page, now };
+                self.refuse(frames, by, page, call, Cause::DiskFault { before, after });
+                Err(FixErr::DiskFault { before, after })
+            }
+            Err(ReadErr::BadPage(bad)) => {
+                let call = Call::Fix { page, now };
+                self.refuse(frames, by, page, call, Cause::BadPage(bad));
+                Err(FixErr::BadPage(bad))
+            }
+        }
+    }
+
+    /// Appends the refusal of a call that takes a frame for a page.
+    pub(crate) fn refuse<F: Frames>(
+        &mut self,
+        frames: &mut F,
+        by: Caller,
+        page: PageId,
+        call: Call,
+        cause: Cause,
+    )
+        requires places { self.old.state.config.first + length self.old.state.history + 1 < 2 ^ 48 }
+        requires room { 0 < self.old.room }
+        requires tied { AreTied D.tells D.told D.space_pages (F.seen frames.old) self.old.state }
+        requires turn { HasTurn (F.seen frames.old) by }
+        requires own { IsOwn (F.seen frames.old) self.old.state page }
+        requires asked { AsksFor page call }
+        requires may { MayRefuse (F.seen frames.old) call cause }
+        ensures appended { IsRefused self.old.state self.new.state by call cause }
+        ensures unmoved { (F.seen frames.new).rows ≡ (F.seen frames.old).rows }
+        ensures tied { AreTied D.tells D.told D.space_pages (F.seen frames.new) self.new.state }
+        ensures disk { self.new.state.disk ≡ self.old.state.disk }
+        ensures behind { (o : Opened) → IsBehind D.tells D.told D.space_pages o self.old.state (F.seen frames.old)
+            → IsBehind D.tells D.told D.space_pages o self.new.state (F.seen frames.new) }
+    {
+        self.append(frames, by, Kind::Refused { call, cause });
+    }
+
+    /// Grants a fix of a page that is in the frame.
+    fn grant<F: Frames>(
+        &mut self,
+        frames: &mut F,
+        by: Caller,
+        page: PageId,
+        frame: u32,
+        now: u64,
+    ) -> Granted
+        requires places { self.old.state.config.first + length self.old.state.history + 1 < 2 ^ 48 }
+        requires room { 0 < self.old.room }
+        requires resident { home self.old.state.history page ≡ Some frame }
+        requires below { frame < self.old.state.config.frames }
+        requires fix { 0 < F.room frames.old frame }
+        requires tied { AreTied D.tells D.told D.space_pages (F.seen frames.old) self.old.state }
+        requires settled { AreSettled (F.seen frames.old).rows }
+        requires caller { MayFix (F.seen frames.old) self.old.state by page }
+        ensures hit { IsHit self.old.state self.new.state (F.seen frames.old).rows (F.seen frames.new).rows by page now result }
+        ensures frame { result.frame ≡ frame }
+        ensures tied { AreTied D.tells D.told D.space_pages (F.seen frames.new) self.new.state }
+        ensures settled { AreSettled (F.seen frames.new).rows }
+        ensures more { IsOneMore self.old.state.history self.new.state.history }
+        ensures left { LeavesDesk D.page_size D.tells D.space_pages D.fault_count self.old.state self.new.state }
+        ensures behind { (o : Opened) → IsBehind D.tells D.told D.space_pages o self.old.state (F.seen frames.old)
+            → IsBehind D.tells D.told D.space_pages o self.new.state (F.seen frames.new) }
+    {
+        let place = self.lists.mark() + 1;
+        let clock = frames.visit(frame).clock();
+        self.append(
+            frames,
+            by,
+            Kind::Fix {
+                page,
+                frame,
+                clock,
+                now,
+            },
+        );
+        Granted {
+            frame,
+            clock,
+            place,
+        }
+    }
+
+    /// Fixes a page that is not resident: a frame is had for it, and it is read into that.
+    fn fix_absent<F: Frames, R: RedoDisk>(
+        &mut self,
+        frames: &mut F,
+        redo: &mut Redo<R>,
+        by: Caller,
+        page: PageId,
+        now: u64,
+    ) -> Result<Granted, FixErr>
+        requires places { self.old.state.config.first + length self.old.state.history + 4 < 2 ^ 48 }
+        requires room { 4 ≤ self.old.room }
+        requires inside { IsInside (D.space_pages self.old.state.disk) page }
+        requires absent { home self.old.state.history page ≡ None }
+        requires clean { is_dirty self.old.state.history page ≡ false }
+        requires tied { AreTied D.tells D.told D.space_pages (F.seen frames.old) self.old.state }
+        requires settled { AreSettled (F.seen frames.old).rows }
+        requires caller { MayFix (F.seen frames.old) self.old.state by page }
+        requires fixes { (f : ℕ) → f < length (F.seen frames.old).rows → 0 < F.room frames.old f }
+        requires known { log_end self.old.state.history ≤ redo.old.seen.end }
+        ensures granted { IfOk result (λ g. IsMiss D.told self.old.state self.new.state (F.seen frames.old).rows (F.seen frames.new).rows by page now g) }
+        ensures refused { IfErr result (λ e. (held : ℕ) → held < 64 → IsFixRefusal D.told D.space_pages D.fault_count self.old.state self.new.state
+            (F.seen frames.old).rows (F.seen frames.new).rows by held page now redo.old.seen.durable redo.old.seen.faults redo.new.seen.faults e) }
+        ensures free { IsSome (next_frame (book self.old.state.config self.old.state.history)) → redo.new ≡ redo.old }
+        ensures covered { (redo.new ≡ redo.old) ⊎ MustCover self.old.state (F.seen frames.old).rows redo.old.seen.durable }
+        ensures unlogged { IfErr result (λ e. IsUnlogged redo.old redo.new e) }
+        ensures tied { AreTied D.tells D.told D.space_pages (F.seen frames.new) self.new.state }
+        ensures settled { AreSettled (F.seen frames.new).rows }
+        ensures grown { length self.new.state.history ≤ length self.old.state.history + 4 }
+        ensures left { LeavesDesk D.page_size D.tells D.space_pages D.fault_count self.old.state self.new.state }
+        ensures log { KeepsLog R.told redo.old redo.new self.old.state.history self.new.state.history }
+        ensures behind { (o : Opened) → IfSome (F.seen frames.old).base (λ base. base ≡ o.base)
+            → IsBehind D.tells D.told D.space_pages o self.old.state (F.seen frames.old)
+            → IsBehind D.tells D.told D.space_pages o self.new.state (F.seen frames.new) }
+        ensures valued { (o : Opened) → IsBehind D.tells D.told D.space_pages o self.old.state (F.seen frames.old)
+            → IfOk result (λ g. IsSome (value o.size o.base self.old.state.history page)) }
+        ensures unsound { (o : Opened) (bad : BadPage) → IsBehind D.tells D.told D.space_pages o self.old.state (F.seen frames.old)
+            → result ≡ Err (FixErr.BadPage bad) → value o.size o.base self.old.state.history page ≡ None }
+    {
+        let call = Call::Fix { page, now };
+        let frame = match self.have_frame(frames, redo, by, page, call) {
+            Ok(frame) => frame,
+            Err(error) => return Err(fix_err(error)),
+        };
+        match self.load(frames, by, page, frame, now) {
+            Ok(()) => Ok(self.grant(frames, by, page, frame, now)),
+            Err(refusal) => Err(refusal),
+        }
+    }
+
+    /// Fixes a page: a resident one where it is, any other one after reading it into a free frame or that of a victim, which is written first
+    /// where it is dirty (buf0buf's `buf_page_get_gen`). The caller holds so many fixes, which may be no more than 64.
+    ///
+    /// Appends the entries `write`, `evict`, `load` and `fix`, each where it happens; or the refusal, behind the entries of a victim that had
+    /// left. Memory is taken before anything changes; want of memory changes nothing.
+    pub fn fix_at<F: Frames, R: RedoDisk>(
+        &mut self,
+        frames: &mut F,
+        redo: &mut Redo<R>,
+        by: Caller,
+        held: u32,
+        page: PageId,
+        now: u64,
+    ) -> Result<Granted, FixErr>
+        requires places { self.old.state.config.first + length self.old.state.history + 4 < 2 ^ 48 }
+        requires tied { AreTied D.tells D.told D.space_pages (F.seen frames.old) self.old.state }
+        requires settled { AreSettled (F.seen frames.old).rows }
+        requires turn { HasTurn (F.seen frames.old) by }
+        requires own { IsOwn (F.seen frames.old) self.old.state page }
+        requires held { IfSome (F.seen frames.old).opened (λ opened. (length opened ≡ held) × (held ≤ 64)) }
+        requires room { held < 64 → (f : ℕ) → f < length (F.seen frames.old).rows → 0 < F.room frames.old f }
+        requires known { log_end self.old.state.history ≤ redo.old.seen.end }
+        ensures granted { IfOk result (λ g. IsGrantedBy D.told self.old.state self.new.state (F.seen frames.old).rows (F.seen frames.new).rows by page now g) }
+        ensures inside { IfOk result (λ g. page.page < pages_in (D.space_pages self.old.state.disk) page.space) }
+        ensures few { OnOk result (held < 64) }
+        ensures refused { IfErr result (λ e. IsFixRefusal D.told D.space_pages D.fault_count self.old.state self.new.state
+            (F.seen frames.old).rows (F.seen frames.new).rows by held page now redo.old.seen.durable redo.old.seen.faults redo.new.seen.faults e) }
+        ensures unlogged { NeedsNoVictim D.space_pages self.old.state held page → redo.new ≡ redo.old }
+        ensures covered { (redo.new ≡ redo.old) ⊎ MustCover self.old.state (F.seen frames.old).rows redo.old.seen.durable }
+        ensures marks { IsMarkBehind redo.old.seen redo.new.seen.durable }
+        ensures unused { IfErr result (λ e. IsUnlogged redo.old redo.new e) }
+        ensures tied { AreTied D.tells D.told D.space_pages (F.seen frames.new) self.new.state }
+        ensures settled { AreSettled (F.seen frames.new).rows }
+        ensures grown { length self.new.state.history ≤ length self.old.state.history + 4 }
+        ensures left { LeavesDesk D.page_size D.tells D.space_pages D.fault_count self.old.state self.new.state }
+        ensures logged { IsLogged redo.old.seen self.old.state.history → IsLogged redo.new.seen self.new.state.history }
+        ensures known { log_end self.new.state.history ≤ redo.new.seen.end }
+        ensures upto { AreUpTo redo.new.seen.durable self.old.state.history self.new.state.history }
+        ensures later { IsLater redo.old.seen redo.new.seen }
+        ensures opening { redo.new.opening ≡ redo.old.opening }
+        ensures kept { IsKept redo.old.seen (R.told redo.old.disk) → IsKept redo.new.seen (R.told redo.new.disk) }
+        ensures behind { (o : Opened) → IfSome (F.seen frames.old).base (λ base. base ≡ o.base)
+            → IsBehind D.tells D.told D.space_pages o self.old.state (F.seen frames.old)
+            → IsBehind D.tells D.told D.space_pages o self.new.state (F.seen frames.new) }
+        ensures valued { (o : Opened) → IsBehind D.tells D.told D.space_pages o self.old.state (F.seen frames.old)
+            → IfOk result (λ g. IsSome (value o.size o.base self.old.state.history page)) }
+        ensures unsound { (o : Opened) (bad : BadPage) → IsBehind D.tells D.told D.space_pages o self.old.state (F.seen frames.old)
+            → result ≡ Err (FixErr.BadPage bad) → value o.size o.base self.old.state.history page ≡ None }
+    {
+        let pages = self.pages(page.space);
+        if self.reserve_fix().is_err() {
+            return Err(FixErr::OutOfMemory);
+        }
+        if page.page >= pages {
+            let call = Call::Fix { page, now };
+            self.refuse(frames, by, page, call, Cause::NoSuchPage { pages });
+            return Err(FixErr::NoSuchPage { pages });
+        }
+        if held >= 64 {
+            let call = Call::Fix { page, now };
+            self.refuse(frames, by, page, call, Cause::HoldFull { held });
+            return Err(FixErr::HoldFull { held });
+        }
+        match self.home_of(page) {
+            Some(frame) => Ok(self.grant(frames, by, page, frame, now)),
+            None => self.fix_absent(frames, redo, by, page, now),
+        }
+    }
+}
+
+/// Why a fix is refused for which no frame was had.
+fn fix_err(error: FrameErr) -> FixErr
+    ensures { result ≡ fix_err_of error }
+{
+    match error {
+        FrameErr::OutOfMemory => FixErr::OutOfMemory,
+        FrameErr::AllFixed { seen } => FixErr::AllFixed { seen },
+        FrameErr::RedoFault { before, after } => FixErr::RedoFault { before, after },
+        FrameErr::DiskFault { before, after } => FixErr::DiskFault { before, after },
+    }
+}
