@@ -773,6 +773,50 @@ E 3 0.1 clean 0 -
 '
 }
 
+# is_open PID: the program has opened the tablespace.
+is_open() {
+    [ -n "$(find "/proc/$1/fd" -lname "$work/case/space" 2>/dev/null)" ]
+}
+
+# Devices that fail once they are open.
+faults() {
+    local pid
+    blank_space
+    mkfifo queue
+    begin
+    printf %s "$thread"$'fix 0:1 1\nfix 0:0 2\n' >script
+    # the program waits for a reader of its log when the tablespace is open, and meanwhile that is cut short
+    (cd case && exec "$program" run 0 space ../queue <../script >../out 2>../err) &
+    pid=$!
+    for _ in $(seq 100); do
+        sleep 0.1
+        is_open "$pid" && break
+    done
+    sleep 0.2
+    dd if=/dev/null of=case/space bs=1 seek=8191 status=none
+    dd if=/dev/null of=want/space bs=1 seek=8191 status=none
+    cat queue >/dev/null &
+    wait "$pid"
+    status=$?
+    expect 'a page that ends behind the file' 1 \
+$'trail 0 4 1
+E 1 1.1 refused fix 0:1 1 DiskFault 0 1
+E 2 1.2 load 0:0 1
+E 3 1.2 fix 0:0 1 2 2
+R 3 1.3 unfixed 0:0 1 2
+E 4 0.1 clean 0 -
+' ''
+    wait
+    blank_files
+    begin
+    printf %s "$thread"$'fix 0:1 1\nput 0:1 38 01\n' >script
+    # no byte may be written behind the first 4096 of a file
+    (trap '' XFSZ && ulimit -f 4 && cd case && exec "$program" run 0 space log <../script >../out 2>../err)
+    status=$?
+    hex want/log 0 '01 00000000 00000001 0026 0001 01 0000000000002016'
+    expect 'a page that cannot be written, behind its log' 6 '' $'innopool: device fault\n'
+}
+
 streams() {
     blank_files
     begin
@@ -816,6 +860,7 @@ many_calls
 long_scripts
 words
 files
+faults
 streams
 
 echo "$passed passed, $failed failed"

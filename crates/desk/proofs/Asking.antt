@@ -1,9 +1,10 @@
 -- A call that takes a frame for a page, and its refusals.
-use Rattle.std.proofs.Common.{◌≡◌, ◌<◌, ℕ, Bool, List, [], Option, IfSome, length, refl, ap, ◌∙◌, sym, subst}
+use Rattle.std.proofs.Common.{◌≡◌, ◌<◌, ℕ, List, [], IfSome, length, refl, ap, ◌∙◌, sym, subst}
 use Rattle.page_ids.specs.Chunks.{instance_of}
 use Rattle.page_ids.specs.declared.ids.PageId.{PageId}
 use Rattle.page_ids.specs.declared.frame_word.Word.{Word}
-use Rattle.trail.specs.Alone.{cause_words}
+use Rattle.page_disk.specs.Disks.{DiskSeen}
+use Rattle.trail.specs.Words.{cause_words}
 use Rattle.trail.specs.declared.event.Call.{Call}
 use Rattle.trail.specs.declared.event.Call.TheVariants as call
 use Rattle.trail.specs.declared.event.Cause.{Cause}
@@ -46,21 +47,21 @@ pub fault_fits : (opened : List Held) (asked : Call) (e : WriteErr) → length o
 fault_fits opened asked (unwritten.RedoFault before after) few = λ takes. few
 fault_fits opened asked (unwritten.DiskFault before after) few = λ takes. few
 
-pub fault_words : (found : List (ℕ × Word)) (e : WriteErr) → AreFound found (cause_words (cause_of e))
-fault_words found (unwritten.RedoFault before after) = tt
-fault_words found (unwritten.DiskFault before after) = tt
+pub fault_words : (found : List (ℕ × Word)) (asked : Call) (e : WriteErr) → AreFound found (cause_words asked (cause_of e))
+fault_words found asked (unwritten.RedoFault before after) = tt
+fault_words found asked (unwritten.DiskFault before after) = tt
 
-module _ {D : Type 0} (tells : D → Bool) (told : D → PageId → Option (List ℕ)) (spaces : D → ℕ → Option ℕ) where
+module _ {D : Type 0} (seen : D → DiskSeen) where
   -- the refusal of such a call is the next entry
-  pub may_refuse : (s : FramesSeen) (desk : State D) (by : Caller) (p : PageId) (asked : Call) (why : Cause) → AreTied tells told spaces s desk → HasTurn s by → IsOwn s desk p → AsksFor p asked
-      → IfSome s.opened (λ opened. FitsRefusal opened asked why) → IfSome s.found (λ found. AreFound found (cause_words why)) → MayAppend s (next_entry desk by (kind.Refused asked why))
+  pub may_refuse : (s : FramesSeen) (desk : State D) (by : Caller) (p : PageId) (asked : Call) (why : Cause) → AreTied seen s desk → HasTurn s by → IsOwn s desk p → AsksFor p asked
+      → IfSome s.opened (λ opened. FitsRefusal opened asked why) → IfSome s.found (λ found. AreFound found (cause_words asked why)) → MayAppend s (next_entry desk by (kind.Refused asked why))
   may_refuse s desk by p asked why tied turn own asks fits words =
-      may_append tells told spaces s desk by (kind.Refused asked why) tt tied.history turn tied.none_owed (published_tied tells told spaces s desk tied)
+      may_append seen s desk by (kind.Refused asked why) tt tied.history turn tied.none_owed (published_tied seen s desk tied)
       (λ is. asked_ours (history_of desk) p asked asks (own is)) tt fits words
 
 -- no word is said
-pub no_words : (s : FramesSeen) (why : Cause) → cause_words why ≡ [] → IfSome s.found (λ found. AreFound found (cause_words why))
-no_words s why none = each_some s.found (λ found. AreFound found (cause_words why)) (λ found is. subst (λ (l : List (ℕ × Word)). AreFound found l) (sym none) tt)
+pub no_words : (s : FramesSeen) (asked : Call) (why : Cause) → cause_words asked why ≡ [] → IfSome s.found (λ found. AreFound found (cause_words asked why))
+no_words s asked why none = each_some s.found (λ found. AreFound found (cause_words asked why)) (λ found is. subst (λ (l : List (ℕ × Word)). AreFound found l) (sym none) tt)
 
 -- the log as it was
 pub unforced_same : {L : Type 0} (x : L) (e : FrameErr) → IsUnforced x x e

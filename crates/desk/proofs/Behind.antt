@@ -9,7 +9,7 @@ use Rattle.page_ids.specs.Size.{page_bytes}
 use Rattle.page_ids.specs.declared.config.Config.{Config}
 use Rattle.page_ids.specs.declared.ids.PageId.{PageId}
 use Rattle.page_ids.specs.declared.layout.BadPage.{BadPage}
-use Rattle.page_disk.specs.Disks.{pages_in, Fades, IsSameDisk}
+use Rattle.page_disk.specs.Disks.{DiskSeen, pages_in, Fades, IsSameDisk}
 use Rattle.trail.specs.declared.event.Entry.{Entry}
 use Rattle.trail.specs.declared.event.Kind.{Kind}
 use Rattle.trail.specs.declared.event.Kind.TheVariants as kind
@@ -53,13 +53,13 @@ value_in o s t i j v w base image is given = subst (λ (x : Option (Option Conte
     go (Some None) g = (base ∙ g.0, g.1)
     go (Some (Some c)) g = g
 
-module _ {D : Type 0} (tells : D → Bool) (told : D → PageId → Option (List ℕ)) (spaces : D → ℕ → Option ℕ) (o : Opened) where
+module _ {D : Type 0} (seen : D → DiskSeen) (o : Opened) where
   abbrev Stands : State D → FramesSeen → Type 0
-  Stands desk s = IsBehind tells told spaces o desk s
+  Stands desk s = IsBehind seen o desk s
 
   -- what is known of a clean page inside its space
-  pub clean_page : (desk : State D) (s : FramesSeen) (p : PageId) → Stands desk s → p.page < pages_in (spaces desk.disk) p.space → is_dirty desk.history p ≡ false
-      → IsClean p (o.told p) (o.base p) (told desk.disk p) (is_written desk.history p) (value o.size o.base desk.history p) (saved o.size o.base desk.history p)
+  pub clean_page : (desk : State D) (s : FramesSeen) (p : PageId) → Stands desk s → p.page < pages_in (seen desk.disk).spaces p.space → is_dirty desk.history p ≡ false
+      → IsClean p (o.told p) (o.base p) ((seen desk.disk).told p) (is_written desk.history p) (value o.size o.base desk.history p) (saved o.size o.base desk.history p)
   clean_page desk s p b inside clean =
       let N : ℕ → Type 0 = λ n. p.page < n in
       let given : IsGiven (o.told p) p (o.base p) = b.based p (subst N (sym (b.pages p.space)) inside) in record {
@@ -73,24 +73,24 @@ module _ {D : Type 0} (tells : D → Bool) (told : D → PageId → Option (List
       }
 
   -- a clean page's value is what its bytes on the disk are a page of
-  pub clean_given : (desk : State D) (s : FramesSeen) (p : PageId) → Stands desk s → p.page < pages_in (spaces desk.disk) p.space → is_dirty desk.history p ≡ false
-      → IsGiven (told desk.disk p) p (value o.size o.base desk.history p)
+  pub clean_given : (desk : State D) (s : FramesSeen) (p : PageId) → Stands desk s → p.page < pages_in (seen desk.disk).spaces p.space → is_dirty desk.history p ≡ false
+      → IsGiven ((seen desk.disk).told p) p (value o.size o.base desk.history p)
   clean_given desk s p b inside clean = stands p _ _ _ _ _ _ (clean_page desk s p b inside clean)
 
   -- what was read of it is its value
-  pub read_value : (desk : State D) (s : FramesSeen) (p : PageId) (c : Content) → Stands desk s → p.page < pages_in (spaces desk.disk) p.space → is_dirty desk.history p ≡ false
-      → IfSome (told desk.disk p) (λ bytes. IsPage p bytes c) → value o.size o.base desk.history p ≡ Some c
+  pub read_value : (desk : State D) (s : FramesSeen) (p : PageId) (c : Content) → Stands desk s → p.page < pages_in (seen desk.disk).spaces p.space → is_dirty desk.history p ≡ false
+      → IfSome ((seen desk.disk).told p) (λ bytes. IsPage p bytes c) → value o.size o.base desk.history p ≡ Some c
   read_value desk s p c b inside clean read = given_content _ p _ c (clean_given desk s p b inside clean) read
 
   -- and where the bytes that were read are no page, it has none
-  pub read_none : (desk : State D) (s : FramesSeen) (p : PageId) (bytes : List ℕ) (bad : BadPage) → Stands desk s → p.page < pages_in (spaces desk.disk) p.space → is_dirty desk.history p ≡ false
-      → IfSome (told desk.disk p) (λ here. bytes ≡ here) → IsBad p bytes bad → value o.size o.base desk.history p ≡ None
+  pub read_none : (desk : State D) (s : FramesSeen) (p : PageId) (bytes : List ℕ) (bad : BadPage) → Stands desk s → p.page < pages_in (seen desk.disk).spaces p.space → is_dirty desk.history p ≡ false
+      → IfSome ((seen desk.disk).told p) (λ here. bytes ≡ here) → IsBad p bytes bad → value o.size o.base desk.history p ≡ None
   read_none desk s p bytes bad b inside clean known is = given_none _ p _ bytes bad (clean_given desk s p b inside clean) known is
 
   -- the disk is as before
-  pub behind_same : (size faults : D → ℕ) (c : Config) (n : ℕ) (h : List Entry) (d e : D) (s : FramesSeen) → IsSameDisk size tells told spaces faults d e
+  pub behind_same : (c : Config) (n : ℕ) (h : List Entry) (d e : D) (s : FramesSeen) → IsSameDisk (seen d) (seen e)
       → Stands (made c n h d) s → Stands (made c n h e) s
-  behind_same size faults c n h d e s same b = record {
+  behind_same c n h d e s same b = record {
     size = b.size;
     pages = λ space. b.pages space ∙ ap (λ (x : Option ℕ). unwrap_or x 0) (sym (same.spaces_are space));
     based = b.based;
@@ -117,7 +117,7 @@ module _ {D : Type 0} (tells : D → Bool) (told : D → PageId → Option (List
     values = λ p f at. subst (λ (v : Option Content). IsValueIn o s (row_at s f).image v) (sym (still.values o.size p (value o.size o.base h p)))
         (b.values p f (sym (still.homes p (home h p)) ∙ at));
     written = λ p is.
-        let P : Option Content → Type 0 = λ s. IfSome (told d p) (λ bytes. IfSome s (λ c. IsPage p bytes c)) in
+        let P : Option Content → Type 0 = λ s. IfSome ((seen d).told p) (λ bytes. IfSome s (λ c. IsPage p bytes c)) in
         subst P (sym (still.saves p (value o.size o.base h p) (saved o.size o.base h p))) (b.written p (sym (still.writes p (is_written h p)) ∙ is));
     unwritten = λ p is. b.unwritten p (sym (still.writes p (is_written h p)) ∙ is);
     clean = λ p is was. b.clean p (ap (λ ds. is_some (dirt_of ds p)) (sym (still.dirts (dirty h))) ∙ is) was;
@@ -164,16 +164,16 @@ module _ {D : Type 0} (tells : D → Bool) (told : D → PageId → Option (List
       go q g false other at = value_in o s t _ _ _ _ base (images g (λ e. fresh q (at ∙ ap (λ (k : ℕ). Some k) e))) refl (b.values q g at)
 
   -- nothing happened yet
-  pub behind_open : (size : ℕ) (c : Config) (n : ℕ) (d : D) (s : FramesSeen) → ((p : PageId) → tells d ≡ false → told d p ≡ None) → size ≡ page_bytes c.page
-      → IsOpening told spaces o size d → Stands (made c n [] d) s
-  behind_open size c n d s silent size_is opened = record {
+  pub behind_open : (c : Config) (n : ℕ) (d : D) (s : FramesSeen) → ((p : PageId) → (seen d).tells ≡ false → (seen d).told p ≡ None) → (seen d).size ≡ page_bytes c.page
+      → IsOpening o (seen d) → Stands (made c n [] d) s
+  behind_open c n d s silent size_is opened = record {
     size = sym size_is ∙ opened.size_is;
     pages = opened.pages_are;
     based = opened.based;
-    telling = λ p is. telling p is (tells d) refl;
+    telling = λ p is. telling p is (seen d).tells refl;
     values = λ p f at. absurd (none_home f at);
     written = λ p is. absurd (no_way (sym is));
-    unwritten = λ p is. as_opened (o.told p) (told d p) (opened.told_are p);
+    unwritten = λ p is. as_opened (o.told p) ((seen d).told p) (opened.told_are p);
     clean = λ p is was. ap is_some (opened.told_are p) ∙ was;
     valued = λ p is. absurd (no_way (sym is));
   }
@@ -181,7 +181,7 @@ module _ {D : Type 0} (tells : D → Bool) (told : D → PageId → Option (List
       none_home : (f : ℕ) → None ≡ Some f → ⊥
       none_home f e = cc
 
-      telling : (p : PageId) → IsSome (o.told p) → (t : Bool) → tells d ≡ t → tells d ≡ true
+      telling : (p : PageId) → IsSome (o.told p) → (t : Bool) → (seen d).tells ≡ t → (seen d).tells ≡ true
       telling p is true e = e
       telling p is false e = absurd (no_way (sym (ap is_some (opened.told_are p) ∙ is) ∙ ap is_some (silent p e)))
 
@@ -191,23 +191,23 @@ module _ {D : Type 0} (tells : D → Bool) (told : D → PageId → Option (List
 
   -- where nothing is dirty, the disk has the values: each told page inside its space is one for its value, or is told as at the opening where it has none
   pub at_rest : (desk : State D) (s : FramesSeen) → Stands desk s → dirty desk.history ≡ [] → (p : PageId) → p.page < o.pages p.space
-      → IfSome (told desk.disk p) (λ bytes. MatchOption (value o.size o.base desk.history p) (o.told p ≡ Some bytes) (λ c. IsPage p bytes c))
-  at_rest desk s b none p inside = go (told desk.disk p) refl (value o.size o.base desk.history p) refl
+      → IfSome ((seen desk.disk).told p) (λ bytes. MatchOption (value o.size o.base desk.history p) (o.told p ≡ Some bytes) (λ c. IsPage p bytes c))
+  at_rest desk s b none p inside = go ((seen desk.disk).told p) refl (value o.size o.base desk.history p) refl
     where
       clean : is_dirty desk.history p ≡ false
       clean = ap (λ ds. is_some (dirt_of ds p)) none
 
-      within : p.page < pages_in (spaces desk.disk) p.space
+      within : p.page < pages_in (seen desk.disk).spaces p.space
       within = (let N : ℕ → Type 0 = λ n. p.page < n in subst N (b.pages p.space) inside)
 
-      stood : IsGiven (told desk.disk p) p (value o.size o.base desk.history p)
+      stood : IsGiven ((seen desk.disk).told p) p (value o.size o.base desk.history p)
       stood = clean_given desk s p b within clean
 
       never : (w : Bool) → is_written desk.history p ≡ w → value o.size o.base desk.history p ≡ None → is_written desk.history p ≡ false
       never false is none_is = is
       never true is none_is = absurd (no_way (sym (ap is_some (sym none_is) ∙ b.valued p is)))
 
-      go : (t : Option (List ℕ)) → told desk.disk p ≡ t → (v : Option Content) → value o.size o.base desk.history p ≡ v
+      go : (t : Option (List ℕ)) → (seen desk.disk).told p ≡ t → (v : Option Content) → value o.size o.base desk.history p ≡ v
           → IfSome t (λ bytes. MatchOption v (o.told p ≡ Some bytes) (λ c. IsPage p bytes c))
       go None is v has = tt
       go (Some bytes) is None has =

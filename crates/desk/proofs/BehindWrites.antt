@@ -7,7 +7,7 @@ use Rattle.page_ids.specs.Layout.{IsPage}
 use Rattle.page_ids.specs.Same.{same_page}
 use Rattle.page_ids.specs.declared.ids.PageId.{PageId}
 use Rattle.page_ids.specs.declared.lists.Words.{Words}
-use Rattle.page_disk.specs.Disks.{Fades, IsSameDisk, IsOtherwiseSame}
+use Rattle.page_disk.specs.Disks.{DiskSeen, Fades, IsSameDisk, IsOtherwiseSame}
 use Rattle.trail.specs.declared.event.Call.{Call}
 use Rattle.trail.specs.declared.event.Cause.{Cause}
 use Rattle.trail.specs.declared.event.Dirty.{Dirty}
@@ -74,9 +74,9 @@ row_there s f g r ne = get_or-set_other s.rows f g r _ ne
 abbrev pub desk_of : {D : Type 0} → State D → List Entry → D → State D
 desk_of desk h d = record { config = desk.config; instance = desk.instance; history = h; disk = d }
 
-module _ {D : Type 0} (tells : D → Bool) (told : D → PageId → Option (List ℕ)) (spaces : D → ℕ → Option ℕ) (o : Opened) where
+module _ {D : Type 0} (seen : D → DiskSeen) (o : Opened) where
   abbrev Stands : State D → FramesSeen → Type 0
-  Stands desk s = IsBehind tells told spaces o desk s
+  Stands desk s = IsBehind seen o desk s
 
   -- only rows and first values are spoken of
   pub behind_rows : (desk : State D) (s t : FramesSeen) → t.rows ≡ s.rows → t.base ≡ s.base → Stands desk s → Stands desk t
@@ -104,9 +104,9 @@ module _ {D : Type 0} (tells : D → Bool) (told : D → PageId → Option (List
       subst R row (b.values p f here)
 
   -- the disk is as before
-  pub behind_disk : (size faults : D → ℕ) (desk : State D) (s : FramesSeen) (e : D) → IsSameDisk size tells told spaces faults desk.disk e
+  pub behind_disk : (desk : State D) (s : FramesSeen) (e : D) → IsSameDisk (seen desk.disk) (seen e)
       → Stands desk s → Stands (desk_of desk desk.history e) s
-  behind_disk size faults desk s e same b = record {
+  behind_disk desk s e same b = record {
     size = b.size;
     pages = λ space. b.pages space ∙ ap (λ (x : Option ℕ). unwrap_or x 0) (sym (same.spaces_are space));
     based = b.based;
@@ -135,7 +135,7 @@ module _ {D : Type 0} (tells : D → Bool) (told : D → PageId → Option (List
             let V : Option Content → Type 0 = λ v. IsValueIn o s (row_at s f).image v in
             subst V (sym (k.values o.size p (value o.size o.base h p))) (b.values p f (sym (k.homes p (home h p)) ∙ at));
         written = λ p is.
-            let P : Option Content → Type 0 = λ x. IfSome (told d p) (λ bytes. IfSome x (λ c. IsPage p bytes c)) in
+            let P : Option Content → Type 0 = λ x. IfSome ((seen d).told p) (λ bytes. IfSome x (λ c. IsPage p bytes c)) in
             subst P (sym (k.saves p (value o.size o.base h p) (saved o.size o.base h p))) (b.written p (sym (k.writes p (is_written h p)) ∙ is));
         unwritten = λ p is. b.unwritten p (sym (k.writes p (is_written h p)) ∙ is);
         clean = λ p is was. b.clean p (ap (λ ds. is_some (dirt_of ds p)) (sym (k.dirts (dirty h))) ∙ is) was;
@@ -186,7 +186,7 @@ module _ {D : Type 0} (tells : D → Bool) (told : D → PageId → Option (List
           let R : Row → Type 0 = λ r. IsValueIn o new r.image (value o.size o.base h q) in
           subst R (sym (row_there (appended s e) f g _ away)) (b.values q g there)
 
-      clean : (q : PageId) → is_some (dirt_of (dirtied p start end (dirty h)) q) ≡ false → IsSome (o.told q) → (t : Bool) → same_page p q ≡ t → IsSome (told desk.disk q)
+      clean : (q : PageId) → is_some (dirt_of (dirtied p start end (dirty h)) q) ≡ false → IsSome (o.told q) → (t : Bool) → same_page p q ≡ t → IsSome ((seen desk.disk).told q)
       clean q is was true same = absurd (no_way (sym (soiled_here p q start end (dirty h) same) ∙ is))
       clean q is was false other = b.clean q (sym (soiled_other p q start end (dirty h) other) ∙ is) was
 
@@ -200,12 +200,12 @@ module _ {D : Type 0} (tells : D → Bool) (told : D → PageId → Option (List
       valued q is false = is
 
   -- the image of a settled home was written
-  pub behind_write : (size faults : D → ℕ) (desk : State D) (s : FramesSeen) (by : Caller) (d : D) (p : PageId) (f lsn upto clock n : ℕ) (c : Content) (bytes : List ℕ)
-      → home desk.history p ≡ Some f → row_at s f ≡ settled p clock c n → IsPage p bytes c → IsOtherwiseSame size tells told spaces faults p desk.disk d
-      → (tells desk.disk ≡ true → told d p ≡ Some bytes) → (tells d ≡ false → told d p ≡ None)
+  pub behind_write : (desk : State D) (s : FramesSeen) (by : Caller) (d : D) (p : PageId) (f lsn upto clock n : ℕ) (c : Content) (bytes : List ℕ)
+      → home desk.history p ≡ Some f → row_at s f ≡ settled p clock c n → IsPage p bytes c → IsOtherwiseSame p (seen desk.disk) (seen d)
+      → ((seen desk.disk).tells ≡ true → (seen d).told p ≡ Some bytes) → ((seen d).tells ≡ false → (seen d).told p ≡ None)
       → Stands desk s
       → Stands (desk_of desk (next_entry desk by (kind.Write p lsn upto) ∷ desk.history) d) (appended s (next_entry desk by (kind.Write p lsn upto)))
-  behind_write size faults desk s by d p f lsn upto clock n c bytes here row page others ok silent b = record {
+  behind_write desk s by d p f lsn upto clock n c bytes here row page others ok silent b = record {
     size = b.size;
     pages = λ space. b.pages space ∙ ap (λ (x : Option ℕ). unwrap_or x 0) (sym (others.spaces_are space));
     based = b.based;
@@ -223,34 +223,34 @@ module _ {D : Type 0} (tells : D → Bool) (told : D → PageId → Option (List
       is_value : value o.size o.base h p ≡ Some c
       is_value = settled_value desk s p f clock n c here row b
 
-      now_page : (t : Bool) → tells desk.disk ≡ t → IfSome (told d p) (λ x. IfSome (value o.size o.base h p) (λ y. IsPage p x y))
+      now_page : (t : Bool) → (seen desk.disk).tells ≡ t → IfSome ((seen d).told p) (λ x. IfSome (value o.size o.base h p) (λ y. IsPage p x y))
       now_page true is =
           let P : Option (List ℕ) → Type 0 = λ x. IfSome x (λ x. IfSome (value o.size o.base h p) (λ y. IsPage p x y)) in
           let Q : Option Content → Type 0 = λ v. IfSome v (λ y. IsPage p bytes y) in
           subst P (sym (ok is)) (subst Q (sym is_value) page)
       now_page false is =
           let P : Option (List ℕ) → Type 0 = λ x. IfSome x (λ x. IfSome (value o.size o.base h p) (λ y. IsPage p x y)) in
-          let none : told d p ≡ None = silent (others.telling ∙ is) in
+          let none : (seen d).told p ≡ None = silent (others.telling ∙ is) in
           subst P (sym none) tt
 
       written : (q : PageId) (t : Bool) → same_page p q ≡ t → cond t true (is_written h q) ≡ true
-          → IfSome (told d q) (λ x. IfSome (cond t (value o.size o.base h q) (saved o.size o.base h q)) (λ y. IsPage q x y))
+          → IfSome ((seen d).told q) (λ x. IfSome (cond t (value o.size o.base h q) (saved o.size o.base h q)) (λ y. IsPage q x y))
       written q true same is =
-          let P : PageId → Type 0 = λ r. IfSome (told d r) (λ x. IfSome (value o.size o.base h r) (λ y. IsPage r x y)) in
-          subst P (same_is p q same) (now_page (tells desk.disk) refl)
+          let P : PageId → Type 0 = λ r. IfSome ((seen d).told r) (λ x. IfSome (value o.size o.base h r) (λ y. IsPage r x y)) in
+          subst P (same_is p q same) (now_page (seen desk.disk).tells refl)
       written q false other is =
           let P : Option (List ℕ) → Type 0 = λ t. IfSome t (λ x. IfSome (saved o.size o.base h q) (λ y. IsPage q x y)) in
           subst P (sym (others.bytes q other)) (b.written q is)
 
-      unwritten : (q : PageId) (t : Bool) → same_page p q ≡ t → cond t true (is_written h q) ≡ false → Fades (o.told q) (told d q)
+      unwritten : (q : PageId) (t : Bool) → same_page p q ≡ t → cond t true (is_written h q) ≡ false → Fades (o.told q) ((seen d).told q)
       unwritten q true same is = absurd (no_way is)
       unwritten q false other is =
           let P : Option (List ℕ) → Type 0 = λ t. Fades (o.told q) t in
           subst P (sym (others.bytes q other)) (b.unwritten q is)
 
-      clean : (q : PageId) (t : Bool) → same_page p q ≡ t → is_some (dirt_of (cleaned p (dirty h)) q) ≡ false → IsSome (o.told q) → IsSome (told d q)
+      clean : (q : PageId) (t : Bool) → same_page p q ≡ t → is_some (dirt_of (cleaned p (dirty h)) q) ≡ false → IsSome (o.told q) → IsSome ((seen d).told q)
       clean q true same is was =
-          let P : PageId → Type 0 = λ r. IsSome (told d r) in
+          let P : PageId → Type 0 = λ r. IsSome ((seen d).told r) in
           subst P (same_is p q same) (ap is_some (ok (b.telling q was)))
       clean q false other is was = ap is_some (others.bytes q other) ∙ b.clean q (sym (left_other p q (dirty h) other) ∙ is) was
 
@@ -259,17 +259,17 @@ module _ {D : Type 0} (tells : D → Bool) (told : D → PageId → Option (List
       valued q false other is = b.valued q is
 
   -- a write failed: the page, which stays dirty, is told as before or not at all
-  pub behind_failed : (size faults : D → ℕ) (desk : State D) (s : FramesSeen) (d : D) (p : PageId) → is_dirty desk.history p ≡ true
-      → IsOtherwiseSame size tells told spaces faults p desk.disk d → Fades (told desk.disk p) (told d p)
+  pub behind_failed : (desk : State D) (s : FramesSeen) (d : D) (p : PageId) → is_dirty desk.history p ≡ true
+      → IsOtherwiseSame p (seen desk.disk) (seen d) → Fades ((seen desk.disk).told p) ((seen d).told p)
       → Stands desk s → Stands (desk_of desk desk.history d) s
-  behind_failed size faults desk s d p dirty_is others fades b = record {
+  behind_failed desk s d p dirty_is others fades b = record {
     size = b.size;
     pages = λ space. b.pages space ∙ ap (λ (x : Option ℕ). unwrap_or x 0) (sym (others.spaces_are space));
     based = b.based;
     telling = λ q is. others.telling ∙ b.telling q is;
     values = b.values;
-    written = λ q is. faded (told desk.disk q) (told d q) (λ x. IfSome (saved o.size o.base h q) (λ y. IsPage q x y)) (all q (same_page p q) refl) (b.written q is);
-    unwritten = λ q is. faded (told desk.disk q) (told d q) (λ x. o.told q ≡ Some x) (all q (same_page p q) refl) (b.unwritten q is);
+    written = λ q is. faded ((seen desk.disk).told q) ((seen d).told q) (λ x. IfSome (saved o.size o.base h q) (λ y. IsPage q x y)) (all q (same_page p q) refl) (b.written q is);
+    unwritten = λ q is. faded ((seen desk.disk).told q) ((seen d).told q) (λ x. o.told q ≡ Some x) (all q (same_page p q) refl) (b.unwritten q is);
     clean = λ q is was. clean q (same_page p q) refl is was;
     valued = b.valued;
   }
@@ -281,10 +281,10 @@ module _ {D : Type 0} (tells : D → Bool) (told : D → PageId → Option (List
       itself None = tt
       itself (Some t) = refl
 
-      all : (q : PageId) (t : Bool) → same_page p q ≡ t → Fades (told desk.disk q) (told d q)
-      all q true same = (let P : PageId → Type 0 = λ r. Fades (told desk.disk r) (told d r) in subst P (same_is p q same) fades)
-      all q false other = (let P : Option (List ℕ) → Type 0 = λ t. Fades (told desk.disk q) t in subst P (sym (others.bytes q other)) (itself (told desk.disk q)))
+      all : (q : PageId) (t : Bool) → same_page p q ≡ t → Fades ((seen desk.disk).told q) ((seen d).told q)
+      all q true same = (let P : PageId → Type 0 = λ r. Fades ((seen desk.disk).told r) ((seen d).told r) in subst P (same_is p q same) fades)
+      all q false other = (let P : Option (List ℕ) → Type 0 = λ t. Fades ((seen desk.disk).told q) t in subst P (sym (others.bytes q other)) (itself ((seen desk.disk).told q)))
 
-      clean : (q : PageId) (t : Bool) → same_page p q ≡ t → is_dirty h q ≡ false → IsSome (o.told q) → IsSome (told d q)
+      clean : (q : PageId) (t : Bool) → same_page p q ≡ t → is_dirty h q ≡ false → IsSome (o.told q) → IsSome ((seen d).told q)
       clean q true same is was = absurd (no_way (sym dirty_is ∙ ap (is_dirty h) (same_is p q same) ∙ is))
       clean q false other is was = ap is_some (others.bytes q other) ∙ b.clean q is was

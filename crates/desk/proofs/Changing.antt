@@ -4,7 +4,7 @@ use Rattle.std.specs.Prelude.{⊤}
 use Rattle.std.proofs.lemmas.Bool.{ne_eqb}
 use Rattle.std.proofs.lemmas.List.{set-set, set-get_or, length-take-le, length-drop}
 use Rattle.std.specs.Option.{is_some, option_map, option_map_or}
-use Rattle.page_ids.specs.Content.{Content, patched}
+use Rattle.page_ids.specs.Content.{Content, IsRange, patched}
 use Rattle.page_ids.specs.Layout.{IsPage}
 use Rattle.page_ids.specs.Same.{same_page}
 use Rattle.page_ids.specs.Size.{page_bytes}
@@ -14,7 +14,7 @@ use Rattle.page_ids.specs.declared.ids.PageId.{PageId}
 use Rattle.page_ids.specs.declared.lists.Words.{Words}
 use Rattle.trail.specs.declared.event.Call.{Call}
 use Rattle.trail.specs.declared.event.Cause.{Cause}
-use Rattle.page_disk.specs.Disks.{IsSameDisk, IsOtherwiseSame, Fades}
+use Rattle.page_disk.specs.Disks.{DiskSeen, IsSameDisk, IsOtherwiseSame, Fades}
 use Rattle.trail.specs.declared.event.Dirty.{Dirty}
 use Rattle.trail.specs.declared.event.Entry.{Entry}
 use Rattle.trail.specs.declared.event.Held.{Held}
@@ -22,15 +22,15 @@ use Rattle.trail.specs.declared.event.Kind.{Kind}
 use Rattle.trail.specs.declared.event.Kind.TheVariants as kind
 use Rattle.trail.specs.Dirt.{dirtied, dirty, dirt_of, is_dirty}
 use Rattle.trail.specs.History.{value, home, change, changes}
-use Rattle.trail.specs.Places.{mark}
-use Rattle.trail.specs.Alone.{words_told}
+use Rattle.trail.specs.Trails.{mark}
+use Rattle.trail.specs.Words.{words_told}
 use Rattle.frame_words.specs.Appends.{AreReady, FitsHomes, FitsOpen, appended, extended, pages_named, turn_after}
 use Rattle.frame_words.specs.Conditions.{AreFound, AreOurs, ArePublished, IsNext, IsReached, IsUncovered, MayAppend, MayLay}
 use Rattle.frame_words.specs.Rows.{Row, Uncovers, laid_row, latched_row, lifted_row, stamped_row, unlatched_row}
 use Rattle.frame_words.specs.Seen.{FramesSeen, History, Turn, row_at, with_row, OnValue}
 use Rattle.desk.specs.Base.{Opened}
 use Rattle.desk.specs.Behind.{IsBehind}
-use Rattle.desk.specs.Changes.{IsBody, IsPutBy, IsImageTold, changed_row}
+use Rattle.desk.specs.Changes.{IsPutBy, IsImageTold, changed_row}
 use Rattle.desk.specs.State.{State}
 use Rattle.desk.specs.Steps.{IsAppended, next_entry}
 use Rattle.desk.specs.Tied.{AreTied, AreAlone, HasTurn, IsTied, OnTold}
@@ -132,7 +132,7 @@ uncovered s f clock n p c image row is =
     let same : Some (Some image) ≡ Some (Some c) = subst U row is.told in
     cc
 
-pub length-changed : (size : ℕ) (c : Content) (at : ℕ) (bytes : List ℕ) (lsn : ℕ) → length c.bytes ≡ size → IsBody size at (length bytes) → length (patched c at bytes lsn).bytes ≡ size
+pub length-changed : (size : ℕ) (c : Content) (at : ℕ) (bytes : List ℕ) (lsn : ℕ) → length c.bytes ≡ size → IsRange size at (length bytes) → length (patched c at bytes lsn).bytes ≡ size
 length-changed size c at bytes lsn sized body =
     let head = length-take-le at c.bytes (omega (arith, sized, body.trailer)) in
     let tail = length-drop (at + length bytes) c.bytes in
@@ -213,9 +213,9 @@ next_may s desk by k ready history turn published owed ours homes opened words =
           words = no_words s.found;
         })
 
-module _ {D : Type 0} (tells : D → Bool) (told : D → PageId → Option (List ℕ)) (spaces : D → ℕ → Option ℕ) where
+module _ {D : Type 0} (seen : D → DiskSeen) where
   abbrev Ties : FramesSeen → State D → Type 0
-  Ties s desk = AreTied tells told spaces s desk
+  Ties s desk = AreTied seen s desk
 
   pub home_row : (s : FramesSeen) (desk : State D) (p : PageId) (f : ℕ) → Ties s desk → AreAlone s → home desk.history p ≡ Some f → f < desk.config.frames
       → ((q : PageId) → home desk.history q ≡ Some f → q ≡ p) → IsSettled (page_bytes desk.config.page) desk.history (row_at s f) p f
@@ -228,11 +228,11 @@ module _ {D : Type 0} (tells : D → Bool) (told : D → PageId → Option (List
       → IfSome s.base (λ base. value (page_bytes desk.config.page) base desk.history p ≡ Some c)
   value_told s desk p f clock n c t here row = go s.base t.valued
     where
-      go : (B : Option (PageId → Option Content)) → IfSome B (λ base. (o : Opened) × (o.base ≡ base) × IsBehind tells told spaces o desk s)
+      go : (B : Option (PageId → Option Content)) → IfSome B (λ base. (o : Opened) × (o.base ≡ base) × IsBehind seen o desk s)
           → IfSome B (λ base. value (page_bytes desk.config.page) base desk.history p ≡ Some c)
       go None is = tt
       go (Some base) is =
-          let v : value is.0.size is.0.base desk.history p ≡ Some c = settled_value tells told spaces is.0 desk s p f clock n c here row is.2 in
+          let v : value is.0.size is.0.base desk.history p ≡ Some c = settled_value seen is.0 desk s p f clock n c here row is.2 in
           ap (λ size. value size base desk.history p) is.2.size ∙ ap (λ b. value is.0.size b desk.history p) (sym is.1) ∙ v
 
   module _ (s : FramesSeen) (desk : State D) (p : PageId) (f clock n : ℕ) (c : Content) (t : Ties s desk) (inside : f < length s.rows) (here : home desk.history p ≡ Some f)
@@ -330,13 +330,13 @@ module _ {D : Type 0} (tells : D → Bool) (told : D → PageId → Option (List
         ∙ given_back
 
   -- values that are told go on to be those of the history
-  valued_on : (old new : State D) (s t : FramesSeen) (B : Option (PageId → Option Content)) → ((o : Opened) → IsBehind tells told spaces o old s → IsBehind tells told spaces o new t)
-      → IfSome B (λ base. (o : Opened) × (o.base ≡ base) × IsBehind tells told spaces o old s) → IfSome B (λ base. (o : Opened) × (o.base ≡ base) × IsBehind tells told spaces o new t)
+  valued_on : (old new : State D) (s t : FramesSeen) (B : Option (PageId → Option Content)) → ((o : Opened) → IsBehind seen o old s → IsBehind seen o new t)
+      → IfSome B (λ base. (o : Opened) × (o.base ≡ base) × IsBehind seen o old s) → IfSome B (λ base. (o : Opened) × (o.base ≡ base) × IsBehind seen o new t)
   valued_on old new s t None on is = tt
   valued_on old new s t (Some base) on is = (is.0, is.1, on is.0 is.2)
 
   -- only what stands on the disk has changed
-  pub tied_disk : (s : FramesSeen) (desk : State D) (d : D) → ((o : Opened) → IsBehind tells told spaces o desk s → IsBehind tells told spaces o (desk_of desk desk.history d) s)
+  pub tied_disk : (s : FramesSeen) (desk : State D) (d : D) → ((o : Opened) → IsBehind seen o desk s → IsBehind seen o (desk_of desk desk.history d) s)
       → Ties s desk → Ties s (desk_of desk desk.history d)
   tied_disk s desk d on t = record {
     count = t.count;
@@ -357,7 +357,7 @@ module _ {D : Type 0} (tells : D → Bool) (told : D → PageId → Option (List
       → (let h : List Entry = e ∷ desk.history in let s' : FramesSeen = record s { history = option_map (extended e) s.history; turn = T; opened = O; found = F } in
       ((p : PageId) → home h p ≡ home desk.history p) → ((f : ℕ) → change h f ≡ change desk.history f)
       → ((p : PageId) (x : Dirty) → dirt_of (dirty h) p ≡ Some x → dirt_of (dirty desk.history) p ≡ Some x)
-      → ((o : Opened) → IsBehind tells told spaces o desk s → IsBehind tells told spaces o (desk_of desk h d) s')
+      → ((o : Opened) → IsBehind seen o desk s → IsBehind seen o (desk_of desk h d) s')
       → Ties s desk → Ties s' (desk_of desk h d))
   tied_on s desk e d T O F homes clocks dirts on t =
       let h : List Entry = e ∷ desk.history in
@@ -392,61 +392,61 @@ module _ {D : Type 0} (tells : D → Bool) (told : D → PageId → Option (List
   tied_refused s desk by asked why t =
       let e : Entry = next_entry desk by (kind.Refused asked why) in
       tied_on s desk e desk.disk (appended s e).turn (appended s e).opened (appended s e).found (λ p. refl) (λ f. refl) (λ p x is. is)
-      (λ o b. behind_rows tells told spaces o _ s (appended s e) refl refl (behind_answer tells told spaces o desk s e (refused_answer asked why) b)) t
+      (λ o b. behind_rows seen o _ s (appended s e) refl refl (behind_answer seen o desk s e (refused_answer asked why) b)) t
 
   pub tied_cleaned : (s : FramesSeen) (desk : State D) (by : Caller) (n : ℕ) (skipped : Words) → Ties s desk
       → Ties (appended s (next_entry desk by (kind.Clean n skipped))) (desk_of desk (next_entry desk by (kind.Clean n skipped) ∷ desk.history) desk.disk)
   tied_cleaned s desk by n skipped t =
       let e : Entry = next_entry desk by (kind.Clean n skipped) in
       tied_on s desk e desk.disk (appended s e).turn (appended s e).opened (appended s e).found (λ p. refl) (λ f. refl) (λ p x is. is)
-      (λ o b. behind_rows tells told spaces o _ s (appended s e) refl refl (behind_answer tells told spaces o desk s e (clean_answer n skipped) b)) t
+      (λ o b. behind_rows seen o _ s (appended s e) refl refl (behind_answer seen o desk s e (clean_answer n skipped) b)) t
 
   -- after a refusal, and after a clean
   pub refused_tied : (s t : FramesSeen) (old new : State D) (by : Caller) (asked : Call) (why : Cause) → IsAppended old new by (kind.Refused asked why) → new.disk ≡ old.disk
       → t ≡ appended s (next_entry old by (kind.Refused asked why)) → Ties s old → Ties t new
-  refused_tied s t old new by asked why a disk seen tied =
+  refused_tied s t old new by asked why a disk shown tied =
       let e : Entry = next_entry old by (kind.Refused asked why) in
-      subst (λ (x : FramesSeen). Ties x new) (sym seen)
+      subst (λ (x : FramesSeen). Ties x new) (sym shown)
       (subst (λ (x : State D). Ties (appended s e) x) (sym (desk_next old new by (kind.Refused asked why) a disk)) (tied_refused s old by asked why tied))
 
   pub cleaned_tied : (s t : FramesSeen) (old new : State D) (by : Caller) (n : ℕ) (skipped : Words) → IsAppended old new by (kind.Clean n skipped) → new.disk ≡ old.disk
       → t ≡ appended s (next_entry old by (kind.Clean n skipped)) → Ties s old → Ties t new
-  cleaned_tied s t old new by n skipped a disk seen tied =
+  cleaned_tied s t old new by n skipped a disk shown tied =
       let e : Entry = next_entry old by (kind.Clean n skipped) in
-      subst (λ (x : FramesSeen). Ties x new) (sym seen)
+      subst (λ (x : FramesSeen). Ties x new) (sym shown)
       (subst (λ (x : State D). Ties (appended s e) x) (sym (desk_next old new by (kind.Clean n skipped) a disk)) (tied_cleaned s old by n skipped tied))
 
   pub refused_behind : (o : Opened) (s t : FramesSeen) (old new : State D) (by : Caller) (asked : Call) (why : Cause) → IsAppended old new by (kind.Refused asked why) → new.disk ≡ old.disk
-      → t ≡ appended s (next_entry old by (kind.Refused asked why)) → IsBehind tells told spaces o old s → IsBehind tells told spaces o new t
-  refused_behind o s t old new by asked why a disk seen b =
+      → t ≡ appended s (next_entry old by (kind.Refused asked why)) → IsBehind seen o old s → IsBehind seen o new t
+  refused_behind o s t old new by asked why a disk shown b =
       let e : Entry = next_entry old by (kind.Refused asked why) in
-      subst (λ (x : FramesSeen). IsBehind tells told spaces o new x) (sym seen)
-      (subst (λ (x : State D). IsBehind tells told spaces o x (appended s e)) (sym (desk_next old new by (kind.Refused asked why) a disk))
-      (behind_rows tells told spaces o (desk_of old (e ∷ old.history) old.disk) s (appended s e) refl refl (behind_answer tells told spaces o old s e (refused_answer asked why) b)))
+      subst (λ (x : FramesSeen). IsBehind seen o new x) (sym shown)
+      (subst (λ (x : State D). IsBehind seen o x (appended s e)) (sym (desk_next old new by (kind.Refused asked why) a disk))
+      (behind_rows seen o (desk_of old (e ∷ old.history) old.disk) s (appended s e) refl refl (behind_answer seen o old s e (refused_answer asked why) b)))
 
   pub cleaned_behind : (o : Opened) (s t : FramesSeen) (old new : State D) (by : Caller) (n : ℕ) (skipped : Words) → IsAppended old new by (kind.Clean n skipped) → new.disk ≡ old.disk
-      → t ≡ appended s (next_entry old by (kind.Clean n skipped)) → IsBehind tells told spaces o old s → IsBehind tells told spaces o new t
-  cleaned_behind o s t old new by n skipped a disk seen b =
+      → t ≡ appended s (next_entry old by (kind.Clean n skipped)) → IsBehind seen o old s → IsBehind seen o new t
+  cleaned_behind o s t old new by n skipped a disk shown b =
       let e : Entry = next_entry old by (kind.Clean n skipped) in
-      subst (λ (x : FramesSeen). IsBehind tells told spaces o new x) (sym seen)
-      (subst (λ (x : State D). IsBehind tells told spaces o x (appended s e)) (sym (desk_next old new by (kind.Clean n skipped) a disk))
-      (behind_rows tells told spaces o (desk_of old (e ∷ old.history) old.disk) s (appended s e) refl refl (behind_answer tells told spaces o old s e (clean_answer n skipped) b)))
+      subst (λ (x : FramesSeen). IsBehind seen o new x) (sym shown)
+      (subst (λ (x : State D). IsBehind seen o x (appended s e)) (sym (desk_next old new by (kind.Clean n skipped) a disk))
+      (behind_rows seen o (desk_of old (e ∷ old.history) old.disk) s (appended s e) refl refl (behind_answer seen o old s e (clean_answer n skipped) b)))
 
   -- the disk was synced
-  pub synced_tied : (size faults : D → ℕ) (s : FramesSeen) (old new : State D) → new.config ≡ old.config → new.instance ≡ old.instance → new.history ≡ old.history
-      → IsSameDisk size tells told spaces faults old.disk new.disk → Ties s old → Ties s new
-  synced_tied size faults s old new config instance history same t =
+  pub synced_tied : (s : FramesSeen) (old new : State D) → new.config ≡ old.config → new.instance ≡ old.instance → new.history ≡ old.history
+      → IsSameDisk (seen old.disk) (seen new.disk) → Ties s old → Ties s new
+  synced_tied s old new config instance history same t =
       subst (λ (x : State D). Ties s x) (sym (desk_kept old new config instance history))
-      (tied_disk s old new.disk (λ o b. behind_disk tells told spaces o size faults old s new.disk same b) t)
+      (tied_disk s old new.disk (λ o b. behind_disk seen o old s new.disk same b) t)
 
-  pub synced_behind : (o : Opened) (size faults : D → ℕ) (s : FramesSeen) (old new : State D) → new.config ≡ old.config → new.instance ≡ old.instance → new.history ≡ old.history
-      → IsSameDisk size tells told spaces faults old.disk new.disk → IsBehind tells told spaces o old s → IsBehind tells told spaces o new s
-  synced_behind o size faults s old new config instance history same b =
-      subst (λ (x : State D). IsBehind tells told spaces o x s) (sym (desk_kept old new config instance history)) (behind_disk tells told spaces o size faults old s new.disk same b)
+  pub synced_behind : (o : Opened) (s : FramesSeen) (old new : State D) → new.config ≡ old.config → new.instance ≡ old.instance → new.history ≡ old.history
+      → IsSameDisk (seen old.disk) (seen new.disk) → IsBehind seen o old s → IsBehind seen o new s
+  synced_behind o s old new config instance history same b =
+      subst (λ (x : State D). IsBehind seen o x s) (sym (desk_kept old new config instance history)) (behind_disk seen o old s new.disk same b)
 
   pub tied_written : (s : FramesSeen) (desk : State D) (by : Caller) (p : PageId) (lsn upto : ℕ) (d : D)
-      → ((o : Opened) → IsBehind tells told spaces o desk s
-      → IsBehind tells told spaces o (desk_of desk (next_entry desk by (kind.Write p lsn upto) ∷ desk.history) d) (appended s (next_entry desk by (kind.Write p lsn upto))))
+      → ((o : Opened) → IsBehind seen o desk s
+      → IsBehind seen o (desk_of desk (next_entry desk by (kind.Write p lsn upto) ∷ desk.history) d) (appended s (next_entry desk by (kind.Write p lsn upto))))
       → Ties s desk → Ties (appended s (next_entry desk by (kind.Write p lsn upto))) (desk_of desk (next_entry desk by (kind.Write p lsn upto) ∷ desk.history) d)
   tied_written s desk by p lsn upto d on t =
       let e : Entry = next_entry desk by (kind.Write p lsn upto) in
@@ -488,7 +488,7 @@ module _ {D : Type 0} (tells : D → Bool) (told : D → PageId → Option (List
         (λ same. let no : Some n ≡ None = sym (ap (λ (r : Row). r.held) (row_now g same)) ∙ none in absurd (cc))
         (λ other. let was = t.shared g (omega (arith, within, wide)) (sym (ap (λ (r : Row). r.held) (row_there (appended s e) f g now other)) ∙ none) in (map_some (extended e) s.history was.0, was.1));
     own = λ is q g there. t.own (some_map (extended e) s.history is) q g there;
-    valued = valued_on desk new s s' s.base (λ o b. behind_put tells told spaces o desk s by p f at bytes start end clock e.place n c inside here row only b) t.valued;
+    valued = valued_on desk new s s' s.base (λ o b. behind_put seen o desk s by p f at bytes start end clock e.place n c inside here row only b) t.valued;
   }
     where
       e : Entry
@@ -564,14 +564,14 @@ module _ {D : Type 0} (tells : D → Bool) (told : D → PageId → Option (List
   pub record IsPutKept (s s' : FramesSeen) (old new : State D) (by : Caller) (p : PageId) (at : ℕ) (bytes : List ℕ) (d : PutDone) : Type 0 where
     pub done : IsPutBy old new s.rows s'.rows by p at bytes d
     pub tied : Ties s' new
-    pub behind : (o : Opened) → IsBehind tells told spaces o old s → IsBehind tells told spaces o new s'
+    pub behind : (o : Opened) → IsBehind seen o old s → IsBehind seen o new s'
 
   -- what the write of a page leaves
   pub record IsWriteKept (s s' : FramesSeen) (old new : State D) (by : Caller) : Type 0 where
     pub rows : s'.rows ≡ s.rows
     pub tied : Ties s' new
     pub turn : HasTurn s by → HasTurn s' by
-    pub behind : (o : Opened) → IsBehind tells told spaces o old s → IsBehind tells told spaces o new s'
+    pub behind : (o : Opened) → IsBehind seen o old s → IsBehind seen o new s'
 
   -- a page in its home, whose image was lifted under the latch
   module _ (s s1 : FramesSeen) (desk : State D) (by : Caller) (p : PageId) (f : ℕ) (image : Content) (t : Ties s desk) (alone : AreAlone s)
@@ -593,7 +593,7 @@ module _ {D : Type 0} (tells : D → Bool) (told : D → PageId → Option (List
     after_is : (at : ℕ) (bytes slice : List ℕ) (end : ℕ) (new : Content) → new ≡ patched image at slice end → slice ≡ bytes → new ≡ patched it.content at bytes end
     after_is at bytes slice end new is same = is ∙ ap (λ (l : List ℕ). patched image at l end) same ∙ ap (λ (x : Content). patched x at bytes end) image_is
 
-    pub put_lay : (at : ℕ) (bytes slice : List ℕ) (start end : ℕ) (new : Content) (s2 : FramesSeen) → IsBody (page_bytes desk.config.page) at (length bytes)
+    pub put_lay : (at : ℕ) (bytes slice : List ℕ) (start end : ℕ) (new : Content) (s2 : FramesSeen) → IsRange (page_bytes desk.config.page) at (length bytes)
         → new ≡ patched image at slice end → slice ≡ bytes → s2 ≡ appended s1 (next_entry desk by (kind.Put p at bytes start end)) → MayLay s2 f new
     put_lay at bytes slice start end new s2 body is same second =
         let e : Entry = next_entry desk by (kind.Put p at bytes start end) in
@@ -604,7 +604,7 @@ module _ {D : Type 0} (tells : D → Bool) (told : D → PageId → Option (List
         (subst (λ (x : Content). MayLay (appended hand e) f x) (sym (after_is at bytes slice end new is same)) laid)
 
     pub put_kept : (at : ℕ) (bytes slice : List ℕ) (start end place : ℕ) (new : Content) (s2 s3 : FramesSeen) (desk' : State D)
-        → IsBody (page_bytes desk.config.page) at (length bytes) → end ≡ start + 21 + length bytes → new ≡ patched image at slice end → slice ≡ bytes
+        → IsRange (page_bytes desk.config.page) at (length bytes) → end ≡ start + 21 + length bytes → new ≡ patched image at slice end → slice ≡ bytes
         → place ≡ mark desk.config.first desk.history + 1 → s2 ≡ appended s1 (next_entry desk by (kind.Put p at bytes start end))
         → s3 ≡ with_row s2 f (unlatched_row (stamped_row (laid_row (row_at s2 f) new) place))
         → IsAppended desk desk' by (kind.Put p at bytes start end) → desk'.disk ≡ desk.disk
@@ -627,8 +627,8 @@ module _ {D : Type 0} (tells : D → Bool) (told : D → PageId → Option (List
           (tied_put s desk by p f at bytes start end clock it.held it.content within below here it.row only
           (length-changed (page_bytes desk.config.page) it.content at bytes end it.sized body) t));
       behind = λ o b.
-          subst (λ (x : FramesSeen). IsBehind tells told spaces o desk' x) (sym finally) (subst (λ (x : State D). IsBehind tells told spaces o x end_seen) (sym desk_end)
-          (behind_put tells told spaces o desk s by p f at bytes start end clock e.place it.held it.content within here it.row only b));
+          subst (λ (x : FramesSeen). IsBehind seen o desk' x) (sym finally) (subst (λ (x : State D). IsBehind seen o x end_seen) (sym desk_end)
+          (behind_put seen o desk s by p f at bytes start end clock e.place it.held it.content within here it.row only b));
     }
       where
         e : Entry
@@ -660,16 +660,16 @@ module _ {D : Type 0} (tells : D → Bool) (told : D → PageId → Option (List
         subst (λ (x : FramesSeen). MayAppend x (next_entry mid by k)) (sym first)
         (subst (λ (x : Entry). MayAppend (with_row s f (in_hand (row_at s f))) x) (sym (ap (λ (x : State D). next_entry x by k) still)) may)
 
-    pub write_kept : (size faults : D → ℕ) (lsn upto : ℕ) (mid desk' : State D) (s2 s3 : FramesSeen) → mid ≡ desk_of desk desk.history mid.disk
-        → IsOtherwiseSame size tells told spaces faults p desk.disk mid.disk → IsImageTold tells told p image desk.disk mid.disk → (tells mid.disk ≡ false → told mid.disk p ≡ None)
+    pub write_kept : (lsn upto : ℕ) (mid desk' : State D) (s2 s3 : FramesSeen) → mid ≡ desk_of desk desk.history mid.disk
+        → IsOtherwiseSame p (seen desk.disk) (seen mid.disk) → IsImageTold p image (seen desk.disk) (seen mid.disk) → ((seen mid.disk).tells ≡ false → (seen mid.disk).told p ≡ None)
         → s2 ≡ appended s1 (next_entry mid by (kind.Write p lsn upto)) → s3 ≡ with_row s2 f (unlatched_row (laid_row (row_at s2 f) image))
         → IsAppended mid desk' by (kind.Write p lsn upto) → desk'.disk ≡ mid.disk → IsWriteKept s s3 desk desk' by
-    write_kept size faults lsn upto mid desk' s2 s3 still others written silent second third entry disk = record {
+    write_kept lsn upto mid desk' s2 s3 still others written silent second third entry disk = record {
       rows = ap (λ (x : FramesSeen). x.rows) finally;
       tied = subst (λ (x : FramesSeen). Ties x desk') (sym finally) (subst (λ (x : State D). Ties (appended s e) x) (sym desk_end) (tied_written s desk by p lsn upto mid.disk on t));
       turn = λ turn. subst (λ (x : FramesSeen). HasTurn x by) (sym finally) (turn_kept (turn_after k) s.turn by (λ x. refl) turn);
       behind = λ o b.
-          subst (λ (x : FramesSeen). IsBehind tells told spaces o desk' x) (sym finally) (subst (λ (x : State D). IsBehind tells told spaces o x (appended s e)) (sym desk_end) (on o b));
+          subst (λ (x : FramesSeen). IsBehind seen o desk' x) (sym finally) (subst (λ (x : State D). IsBehind seen o x (appended s e)) (sym desk_end) (on o b));
     }
       where
         k : Kind
@@ -688,22 +688,22 @@ module _ {D : Type 0} (tells : D → Bool) (told : D → PageId → Option (List
         page : IsPage p written.bytes it.content
         page = subst (λ (x : Content). IsPage p written.bytes x) image_is written.page
 
-        on : (o : Opened) → IsBehind tells told spaces o desk s → IsBehind tells told spaces o (desk_of desk (e ∷ desk.history) mid.disk) (appended s e)
-        on o b = behind_write tells told spaces o size faults desk s by mid.disk p f lsn upto clock it.held it.content written.bytes here it.row page others written.tells_it silent b
+        on : (o : Opened) → IsBehind seen o desk s → IsBehind seen o (desk_of desk (e ∷ desk.history) mid.disk) (appended s e)
+        on o b = behind_write seen o desk s by mid.disk p f lsn upto clock it.held it.content written.bytes here it.row page others written.tells_it silent b
 
-    pub fail_kept : (size faults : D → ℕ) (mid : State D) (s2 : FramesSeen) → mid ≡ desk_of desk desk.history mid.disk → is_dirty desk.history p ≡ true
-        → IsOtherwiseSame size tells told spaces faults p desk.disk mid.disk → Fades (told desk.disk p) (told mid.disk p)
+    pub fail_kept : (mid : State D) (s2 : FramesSeen) → mid ≡ desk_of desk desk.history mid.disk → is_dirty desk.history p ≡ true
+        → IsOtherwiseSame p (seen desk.disk) (seen mid.disk) → Fades ((seen desk.disk).told p) ((seen mid.disk).told p)
         → s2 ≡ with_row s1 f (unlatched_row (laid_row (row_at s1 f) image)) → IsWriteKept s s2 desk mid by
-    fail_kept size faults mid s2 still dirt others fades second = record {
+    fail_kept mid s2 still dirt others fades second = record {
       rows = ap (λ (x : FramesSeen). x.rows) finally;
       tied = subst (λ (x : FramesSeen). Ties x mid) (sym finally) (subst (λ (x : State D). Ties s x) (sym still) (tied_disk s desk mid.disk on t));
       turn = λ turn. subst (λ (x : FramesSeen). HasTurn x by) (sym finally) turn;
       behind = λ o b.
-          subst (λ (x : FramesSeen). IsBehind tells told spaces o mid x) (sym finally) (subst (λ (x : State D). IsBehind tells told spaces o x s) (sym still) (on o b));
+          subst (λ (x : FramesSeen). IsBehind seen o mid x) (sym finally) (subst (λ (x : State D). IsBehind seen o x s) (sym still) (on o b));
     }
       where
         finally : s2 ≡ s
         finally = fail_end s desk p f clock it.held it.content t within here it.row image s1 s2 first image_is second
 
-        on : (o : Opened) → IsBehind tells told spaces o desk s → IsBehind tells told spaces o (desk_of desk desk.history mid.disk) s
-        on o b = behind_failed tells told spaces o size faults desk s mid.disk p dirt others fades b
+        on : (o : Opened) → IsBehind seen o desk s → IsBehind seen o (desk_of desk desk.history mid.disk) s
+        on o b = behind_failed seen o desk s mid.disk p dirt others fades b

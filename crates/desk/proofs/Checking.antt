@@ -1,7 +1,6 @@
 -- What a checkpoint leaves.
 use Rattle.std.proofs.Common.{◌≡◌, ◌≤◌, ℕ, List, ◌∷◌, refl, ap, sym, subst}
-use Rattle.page_ids.specs.declared.ids.PageId.{PageId}
-use Rattle.std.specs.Prelude.{Bool, Option}
+use Rattle.page_disk.specs.Disks.{DiskSeen}
 use Rattle.redo_mark.specs.Logs.{Seen}
 use Rattle.trail.specs.declared.event.Entry.{Entry}
 use Rattle.trail.specs.declared.event.Kind.TheVariants as kind
@@ -35,18 +34,18 @@ checked_logged log old new by lsn a early logged = subst (λ (h : List Entry). I
 pub checked_end : {D : Type 0} (old new : State D) (by : Caller) (lsn : ℕ) → IsAppended old new by (kind.Check lsn) → log_end new.history ≡ log_end old.history
 checked_end old new by lsn a = ap log_end a.history
 
-module _ {D : Type 0} (tells : D → Bool) (told : D → PageId → Option (List ℕ)) (spaces : D → ℕ → Option ℕ) where
+module _ {D : Type 0} (seen : D → DiskSeen) where
   pub checked_tied : (s : FramesSeen) (old new : State D) (by : Caller) (lsn : ℕ) → IsAppended old new by (kind.Check lsn) → new.disk ≡ old.disk
-      → AreTied tells told spaces s old → AreTied tells told spaces (appended s (next_entry old by (kind.Check lsn))) new
+      → AreTied seen s old → AreTied seen (appended s (next_entry old by (kind.Check lsn))) new
   checked_tied s old new by lsn a disk tied =
       let e : Entry = next_entry old by (kind.Check lsn) in
-      subst (λ (x : State D). AreTied tells told spaces (appended s e) x) (sym (desk_next old new by (kind.Check lsn) a disk))
-      (tied_on tells told spaces s old e old.disk (appended s e).turn (appended s e).opened (appended s e).found (λ p. refl) (λ f. refl) (λ p x is. is)
-      (λ o b. behind_rows tells told spaces o _ s (appended s e) refl refl (behind_answer tells told spaces o old s e (check_answer lsn) b)) tied)
+      subst (λ (x : State D). AreTied seen (appended s e) x) (sym (desk_next old new by (kind.Check lsn) a disk))
+      (tied_on seen s old e old.disk (appended s e).turn (appended s e).opened (appended s e).found (λ p. refl) (λ f. refl) (λ p x is. is)
+      (λ o b. behind_rows seen o _ s (appended s e) refl refl (behind_answer seen o old s e (check_answer lsn) b)) tied)
 
   pub checked_behind : (o : Opened) (s : FramesSeen) (old new : State D) (by : Caller) (lsn : ℕ) → IsAppended old new by (kind.Check lsn) → new.disk ≡ old.disk
-      → IsBehind tells told spaces o old s → IsBehind tells told spaces o new (appended s (next_entry old by (kind.Check lsn)))
+      → IsBehind seen o old s → IsBehind seen o new (appended s (next_entry old by (kind.Check lsn)))
   checked_behind o s old new by lsn a disk b =
       let e : Entry = next_entry old by (kind.Check lsn) in
-      subst (λ (x : State D). IsBehind tells told spaces o x (appended s e)) (sym (desk_next old new by (kind.Check lsn) a disk))
-      (behind_rows tells told spaces o (desk_of old (e ∷ old.history) old.disk) s (appended s e) refl refl (behind_answer tells told spaces o old s e (check_answer lsn) b))
+      subst (λ (x : State D). IsBehind seen o x (appended s e)) (sym (desk_next old new by (kind.Check lsn) a disk))
+      (behind_rows seen o (desk_of old (e ∷ old.history) old.disk) s (appended s e) refl refl (behind_answer seen o old s e (check_answer lsn) b))

@@ -12,15 +12,15 @@ use Rattle.page_ids.specs.Size.{page_bytes}
 use Rattle.page_ids.specs.declared.config.Config.{Config}
 use Rattle.page_ids.specs.declared.frame_word.Word.{Word}
 use Rattle.page_ids.specs.declared.ids.PageId.{PageId}
-use Rattle.page_disk.specs.Disks.{Fades, IsOtherwiseSame}
-use Rattle.trail.specs.Alone.{words_told}
+use Rattle.page_disk.specs.Disks.{DiskSeen, Fades, IsOtherwiseSame}
+use Rattle.trail.specs.Words.{words_told}
 use Rattle.trail.specs.declared.event.Call.{Call}
 use Rattle.trail.specs.declared.event.Cause.{Cause}
 use Rattle.trail.specs.declared.event.Dirty.{Dirty}
 use Rattle.trail.specs.declared.event.Entry.{Entry}
 use Rattle.trail.specs.declared.event.Kind.{Kind}
 use Rattle.trail.specs.declared.event.Kind.TheVariants as kind
-use Rattle.trail.specs.Book.{book, next_frame}
+use Rattle.trail.specs.Book.{book, frame_in_turn}
 use Rattle.trail.specs.History.{value, home, change}
 use Rattle.trail.specs.Dirt.{dirty, dirt_of, is_dirty}
 use Rattle.frame_words.specs.Appends.{appended, extended, AreReady, FitsHomes, FitsOpen, pages_named}
@@ -130,20 +130,20 @@ written_clean h p place caller number lsn upto = ap (is_some {T = Dirty}) (clean
 abbrev pub on_disk : {D : Type 0} → State D → D → State D
 on_disk desk d = desk_of desk.config desk.instance desk.history d
 
-module _ {D : Type 0} (tells : D → Bool) (told : D → PageId → Option (List ℕ)) (spaces : D → ℕ → Option ℕ) where
+module _ {D : Type 0} (seen : D → DiskSeen) where
   abbrev Tied : FramesSeen → State D → Type 0
-  Tied s desk = AreTied tells told spaces s desk
+  Tied s desk = AreTied seen s desk
 
   abbrev But : FramesSeen → State D → PageId → ℕ → Type 0
-  But s desk p f = AreTiedBut tells told spaces s desk p f
+  But s desk p f = AreTiedBut seen s desk p f
 
   abbrev Valued : FramesSeen → State D → Type 0
-  Valued s desk = IfSome s.base (λ base. (o : Opened) × (o.base ≡ base) × IsBehind tells told spaces o desk s)
+  Valued s desk = IfSome s.base (λ base. (o : Opened) × (o.base ≡ base) × IsBehind seen o desk s)
 
   valued_on : (s t : FramesSeen) (desk new : State D) → t.base ≡ s.base
-      → ((o : Opened) → s.base ≡ Some o.base → IsBehind tells told spaces o desk s → IsBehind tells told spaces o new t) → Valued s desk → Valued t new
-  valued_on s t desk new base on v = each_some t.base (λ b. (o : Opened) × (o.base ≡ b) × IsBehind tells told spaces o new t) (λ b is.
-      let was = at_some s.base (λ b. (o : Opened) × (o.base ≡ b) × IsBehind tells told spaces o desk s) b v (sym base ∙ is) in
+      → ((o : Opened) → s.base ≡ Some o.base → IsBehind seen o desk s → IsBehind seen o new t) → Valued s desk → Valued t new
+  valued_on s t desk new base on v = each_some t.base (λ b. (o : Opened) × (o.base ≡ b) × IsBehind seen o new t) (λ b is.
+      let was = at_some s.base (λ b. (o : Opened) × (o.base ≡ b) × IsBehind seen o desk s) b v (sym base ∙ is) in
       (was.0, was.1, on was.0 (sym base ∙ is ∙ ap (λ (x : PageId → Option Content). Some x) (sym was.1)) was.2))
 
   -- a desk is its parts
@@ -166,15 +166,15 @@ module _ {D : Type 0} (tells : D → Bool) (told : D → PageId → Option (List
     known = t.known;
     shared = t.shared;
     own = t.own;
-    valued = valued_on s (record s { found = found }) desk desk refl (λ o is b. behind_frames tells told spaces o desk s (record s { found = found }) refl refl b) t.valued;
+    valued = valued_on s (record s { found = found }) desk desk refl (λ o is b. behind_frames seen o desk s (record s { found = found }) refl refl b) t.valued;
   }
 
   -- a look leaves the ties
   pub tied_looked : (s t : FramesSeen) (desk : State D) → HasLooked s t → Tied s desk → Tied t desk
   tied_looked s t desk looked tied = subst (λ (u : FramesSeen). Tied u desk) (sym looked.is) (tied_found s looked.found desk tied)
 
-  pub behind_looked : (o : Opened) (s t : FramesSeen) (desk : State D) → HasLooked s t → IsBehind tells told spaces o desk s → IsBehind tells told spaces o desk t
-  behind_looked o s t desk looked b = behind_frames tells told spaces o desk s t (ap (λ (u : FramesSeen). u.rows) looked.is) (ap (λ (u : FramesSeen). u.base) looked.is) b
+  pub behind_looked : (o : Opened) (s t : FramesSeen) (desk : State D) → HasLooked s t → IsBehind seen o desk s → IsBehind seen o desk t
+  behind_looked o s t desk looked b = behind_frames seen o desk s t (ap (λ (u : FramesSeen). u.rows) looked.is) (ap (λ (u : FramesSeen). u.base) looked.is) b
 
   -- what is known of the image of a page whose frame is claimed
   pub record HasImage (s : FramesSeen) (desk : State D) (p : PageId) (image : Option (Option Content)) : Type 0 where
@@ -182,7 +182,7 @@ module _ {D : Type 0} (tells : D → Bool) (told : D → PageId → Option (List
     pub is : image ≡ Some (Some content)
     pub sized : length content.bytes ≡ page_bytes desk.config.page
     pub lsn : (d : Dirty) → dirt_of (dirty desk.history) p ≡ Some d → content.lsn ≡ d.newest
-    pub value_is : (o : Opened) → IsBehind tells told spaces o desk s → value o.size o.base desk.history p ≡ Some content
+    pub value_is : (o : Opened) → IsBehind seen o desk s → value o.size o.base desk.history p ≡ Some content
 
   pub claimed_image : (s : FramesSeen) (desk : State D) (p : PageId) (f : ℕ) (image : Option (Option Content)) → Tied s desk → home desk.history p ≡ Some f
       → ((q : PageId) → home desk.history q ≡ Some f → q ≡ p) → f < desk.config.frames → IsUncovered s f image → HasImage s desk p image
@@ -233,7 +233,7 @@ module _ {D : Type 0} (tells : D → Bool) (told : D → PageId → Option (List
           }
 
   behind_claimed : (o : Opened) (s : FramesSeen) (desk : State D) (p : PageId) (f : ℕ) (r : Row) (c : Content) → f < length s.rows → ((q : PageId) → home desk.history q ≡ Some f → q ≡ p)
-      → r.image ≡ Some (Some c) → value o.size o.base desk.history p ≡ Some c → IsBehind tells told spaces o desk s → IsBehind tells told spaces o desk (with_row s f r)
+      → r.image ≡ Some (Some c) → value o.size o.base desk.history p ≡ Some c → IsBehind seen o desk s → IsBehind seen o desk (with_row s f r)
   behind_claimed o s desk p f r c inside alone image value_is b = record {
     size = b.size;
     pages = b.pages;
@@ -256,14 +256,14 @@ module _ {D : Type 0} (tells : D → Bool) (told : D → PageId → Option (List
   }
 
   pub behind_claim : (o : Opened) (s : FramesSeen) (desk : State D) (p : PageId) (f : ℕ) (image : Option (Option Content)) → Tied s desk → f < desk.config.frames
-      → ((q : PageId) → home desk.history q ≡ Some f → q ≡ p) → HasImage s desk p image → IsBehind tells told spaces o desk s
-      → IsBehind tells told spaces o desk (with_row s f (claimed_row (row_at s f) image))
+      → ((q : PageId) → home desk.history q ≡ Some f → q ≡ p) → HasImage s desk p image → IsBehind seen o desk s
+      → IsBehind seen o desk (with_row s f (claimed_row (row_at s f) image))
   behind_claim o s desk p f image tied below alone has b =
       behind_claimed o s desk p f (claimed_row (row_at s f) image) has.content (let whole = tied.whole in omega (arith, whole, below)) alone has.is (has.value_is o b) b
 
   -- a page's frame was claimed
   pub tied_claim : (s : FramesSeen) (desk : State D) (p : PageId) (f : ℕ) (image : Option (Option Content)) → Tied s desk → home desk.history p ≡ Some f
-      → ((q : PageId) → home desk.history q ≡ Some f → q ≡ p) → f < desk.config.frames → next_frame (book desk.config desk.history) ≡ None → (book desk.config desk.history).area ≡ None
+      → ((q : PageId) → home desk.history q ≡ Some f → q ≡ p) → f < desk.config.frames → frame_in_turn (book desk.config desk.history) ≡ None → (book desk.config desk.history).area ≡ None
       → HasImage s desk p image → But (with_row s f (claimed_row (row_at s f) image)) desk p f
   tied_claim s desk p f image tied housed alone below none_free no_area has = record {
     count = length-set s.rows f now ∙ tied.count;
@@ -334,7 +334,7 @@ module _ {D : Type 0} (tells : D → Bool) (told : D → PageId → Option (List
     shared = λ g l none. let known = but.shared g l none in (mapped_some (extended e) s.history known.0, known.1);
     own = λ is q g at. but.own (some_mapped (extended e) s.history is) q g (left_home (same_page p q) (home h q) g at);
     valued = valued_on s t (desk_of c n h d) (desk_of c n (e ∷ h) d) refl
-        (λ o is b. behind_frames tells told spaces o (desk_of c n (e ∷ h) d) s t refl refl (behind_evict tells told spaces o c n h d s place caller number p f passed b)) but.valued;
+        (λ o is b. behind_frames seen o (desk_of c n (e ∷ h) d) s t refl refl (behind_evict seen o c n h d s place caller number p f passed b)) but.valued;
   }
     where
       e : Entry
@@ -382,10 +382,10 @@ module _ {D : Type 0} (tells : D → Bool) (told : D → PageId → Option (List
               absurd (other (same_homes g f homes))
 
   -- the page in the claimed frame was written
-  pub but_wrote : (size faults : D → ℕ) (s : FramesSeen) (c : Config) (n : ℕ) (h : List Entry) (d e : D) (p : PageId) (f place caller number lsn upto : ℕ) (bytes : List ℕ) → (but : But s (desk_of c n h d) p f)
-      → IsPage p bytes but.content → IsOtherwiseSame size tells told spaces faults p d e → (tells d ≡ true → told e p ≡ Some bytes) → (tells e ≡ false → told e p ≡ None)
+  pub but_wrote : (s : FramesSeen) (c : Config) (n : ℕ) (h : List Entry) (d e : D) (p : PageId) (f place caller number lsn upto : ℕ) (bytes : List ℕ) → (but : But s (desk_of c n h d) p f)
+      → IsPage p bytes but.content → IsOtherwiseSame p (seen d) (seen e) → ((seen d).tells ≡ true → (seen e).told p ≡ Some bytes) → ((seen e).tells ≡ false → (seen e).told p ≡ None)
       → But (appended s (entry_at place caller number (kind.Write p lsn upto))) (desk_of c n (entry_at place caller number (kind.Write p lsn upto) ∷ h) e) p f
-  but_wrote size faults s c n h d e p f place caller number lsn upto bytes but page others ok silent = record {
+  but_wrote s c n h d e p f place caller number lsn upto bytes but page others ok silent = record {
     count = but.count;
     whole = but.whole;
     housed = but.housed;
@@ -408,8 +408,8 @@ module _ {D : Type 0} (tells : D → Bool) (told : D → PageId → Option (List
     known = λ g l untold. let known = but.known g l untold in (mapped_some (extended w) s.history known.0, known.1);
     own = λ is. but.own (some_mapped (extended w) s.history is);
     valued = valued_on s t (desk_of c n h d) (desk_of c n (w ∷ h) e) refl
-        (λ o is b. behind_frames tells told spaces o (desk_of c n (w ∷ h) e) s t refl refl
-        (behind_wrote tells told spaces o size faults c n h s d e place caller number p lsn upto but.content bytes
+        (λ o is b. behind_frames seen o (desk_of c n (w ∷ h) e) s t refl refl
+        (behind_wrote seen o c n h s d e place caller number p lsn upto but.content bytes
         (subst (λ (x : Option (Option Content)). IsValueIn o s x (value o.size o.base h p)) but.image (b.values p f but.housed)) page others ok silent b)) but.valued;
   }
     where
@@ -420,9 +420,9 @@ module _ {D : Type 0} (tells : D → Bool) (told : D → PageId → Option (List
       t = appended s w
 
   -- the write failed
-  pub but_unwritten : (size faults : D → ℕ) (s : FramesSeen) (c : Config) (n : ℕ) (h : List Entry) (d e : D) (p : PageId) (f : ℕ) → is_dirty h p ≡ true
-      → IsOtherwiseSame size tells told spaces faults p d e → Fades (told d p) (told e p) → But s (desk_of c n h d) p f → But s (desk_of c n h e) p f
-  but_unwritten size faults s c n h d e p f dirty_is others fades but = record {
+  pub but_unwritten : (s : FramesSeen) (c : Config) (n : ℕ) (h : List Entry) (d e : D) (p : PageId) (f : ℕ) → is_dirty h p ≡ true
+      → IsOtherwiseSame p (seen d) (seen e) → Fades ((seen d).told p) ((seen e).told p) → But s (desk_of c n h d) p f → But s (desk_of c n h e) p f
+  but_unwritten s c n h d e p f dirty_is others fades but = record {
     count = but.count;
     whole = but.whole;
     housed = but.housed;
@@ -444,7 +444,7 @@ module _ {D : Type 0} (tells : D → Bool) (told : D → PageId → Option (List
     history = but.history;
     known = but.known;
     own = but.own;
-    valued = valued_on s s (desk_of c n h d) (desk_of c n h e) refl (λ o is b. behind_unwritten tells told spaces o size faults c n h s d e p dirty_is others fades b) but.valued;
+    valued = valued_on s s (desk_of c n h d) (desk_of c n h e) refl (λ o is b. behind_unwritten seen o c n h s d e p dirty_is others fades b) but.valued;
   }
 
   -- the claimed frame is the page's again
@@ -507,7 +507,7 @@ module _ {D : Type 0} (tells : D → Bool) (told : D → PageId → Option (List
         bare = λ l. let below = but.below in absurd (omega (arith, l, below));
       }
 
-      back : (o : Opened) → s.base ≡ Some o.base → IsBehind tells told spaces o desk s → IsBehind tells told spaces o desk t
+      back : (o : Opened) → s.base ≡ Some o.base → IsBehind seen o desk s → IsBehind seen o desk t
       back o base b = record {
         size = b.size;
         pages = b.pages;
@@ -546,7 +546,7 @@ module _ {D : Type 0} (tells : D → Bool) (told : D → PageId → Option (List
     shared = λ g l none. let known = tied.shared g l none in (mapped_some (extended e) s.history known.0, known.1);
     own = λ is. tied.own (some_mapped (extended e) s.history is);
     valued = valued_on s t (desk_of c n h d) (desk_of c n (e ∷ h) d) refl
-        (λ o is b. behind_frames tells told spaces o (desk_of c n (e ∷ h) d) s t refl refl (behind_quiet tells told spaces o c n h d s e (refused_still asked why) b)) tied.valued;
+        (λ o is b. behind_frames seen o (desk_of c n (e ∷ h) d) s t refl refl (behind_quiet seen o c n h d s e (refused_still asked why) b)) tied.valued;
   }
     where
       e : Entry
@@ -600,7 +600,7 @@ module _ {D : Type 0} (tells : D → Bool) (told : D → PageId → Option (List
         let same : h ≡ history_of desk = at_some s.history (λ h. h ≡ history_of desk) h but.history at in
         subst (λ (x : History). IfSome s.base (λ base. (row_at s f).image ≡ Some (value (page_bytes x.config.page) base x.entries p))) (sym same)
         (each_some s.base (λ base. (row_at s f).image ≡ Some (value (page_bytes desk.config.page) base desk.history p)) (λ base there.
-        let was = at_some s.base (λ b. (o : Opened) × (o.base ≡ b) × IsBehind tells told spaces o desk s) base but.valued there in
+        let was = at_some s.base (λ b. (o : Opened) × (o.base ≡ b) × IsBehind seen o desk s) base but.valued there in
         let is : value was.0.size was.0.base desk.history p ≡ Some but.content = subst (λ (x : Option (Option Content)). IsValueIn was.0 s x (value was.0.size was.0.base desk.history p)) but.image (was.2.values p f but.housed) in
         let now : value (page_bytes desk.config.page) base desk.history p ≡ Some but.content =
         ap (λ (m : ℕ). value m base desk.history p) was.2.size ∙ ap (λ (b : PageId → Option Content). value was.0.size b desk.history p) (sym was.1) ∙ is in
@@ -610,66 +610,66 @@ module _ {D : Type 0} (tells : D → Bool) (told : D → PageId → Option (List
   -- the same of a desk and frames after each call
   pub gone_tied : (s t : FramesSeen) (old new : State D) (by : Caller) (p : PageId) (f : ℕ) (passed : List (ℕ × Word)) → But s old p f → IsAppended old new by (kind.Evict p f passed) → new.disk ≡ old.disk
       → t ≡ appended s (next_entry old by (kind.Evict p f passed)) → Tied t new
-  gone_tied s t old new by p f passed but a disk seen =
+  gone_tied s t old new by p f passed but a disk shown =
       let e = next_entry old by (kind.Evict p f passed) in
-      subst (λ (u : FramesSeen). Tied u new) (sym seen)
+      subst (λ (u : FramesSeen). Tied u new) (sym shown)
       (subst (λ (x : State D). Tied (appended s e) x) (sym (desk_is new old.config old.instance (e ∷ old.history) old.disk a.config a.instance a.history disk))
       (tied_evict s old.config old.instance old.history old.disk p f e.place by.pass by.number passed but))
 
   pub gone_behind : (o : Opened) (s t : FramesSeen) (old new : State D) (by : Caller) (p : PageId) (f : ℕ) (passed : List (ℕ × Word)) → IsAppended old new by (kind.Evict p f passed) → new.disk ≡ old.disk
-      → t ≡ appended s (next_entry old by (kind.Evict p f passed)) → IsBehind tells told spaces o old s → IsBehind tells told spaces o new t
-  gone_behind o s t old new by p f passed a disk seen b =
+      → t ≡ appended s (next_entry old by (kind.Evict p f passed)) → IsBehind seen o old s → IsBehind seen o new t
+  gone_behind o s t old new by p f passed a disk shown b =
       let e = next_entry old by (kind.Evict p f passed) in
-      behind_frames tells told spaces o new s t (ap (λ (u : FramesSeen). u.rows) seen) (ap (λ (u : FramesSeen). u.base) seen)
-      (behind_parts tells told spaces o new s old.config old.instance (e ∷ old.history) old.disk a.config a.instance a.history disk
-      (behind_evict tells told spaces o old.config old.instance old.history old.disk s e.place by.pass by.number p f passed b))
+      behind_frames seen o new s t (ap (λ (u : FramesSeen). u.rows) shown) (ap (λ (u : FramesSeen). u.base) shown)
+      (behind_parts seen o new s old.config old.instance (e ∷ old.history) old.disk a.config a.instance a.history disk
+      (behind_evict seen o old.config old.instance old.history old.disk s e.place by.pass by.number p f passed b))
 
   pub refused_tied : (s t : FramesSeen) (old new : State D) (by : Caller) (asked : Call) (why : Cause) → Tied s old → IsAppended old new by (kind.Refused asked why) → new.disk ≡ old.disk
       → t ≡ appended s (next_entry old by (kind.Refused asked why)) → Tied t new
-  refused_tied s t old new by asked why tied a disk seen =
+  refused_tied s t old new by asked why tied a disk shown =
       let e = next_entry old by (kind.Refused asked why) in
-      subst (λ (u : FramesSeen). Tied u new) (sym seen)
+      subst (λ (u : FramesSeen). Tied u new) (sym shown)
       (subst (λ (x : State D). Tied (appended s e) x) (sym (desk_is new old.config old.instance (e ∷ old.history) old.disk a.config a.instance a.history disk))
       (tied_refused s old.config old.instance old.history old.disk asked e.place by.pass by.number why tied))
 
   pub refused_behind : (o : Opened) (s : FramesSeen) (old new : State D) (by : Caller) (asked : Call) (why : Cause) → IsAppended old new by (kind.Refused asked why) → new.disk ≡ old.disk
-      → IsBehind tells told spaces o old s → IsBehind tells told spaces o new s
+      → IsBehind seen o old s → IsBehind seen o new s
   refused_behind o s old new by asked why a disk b =
       let e = next_entry old by (kind.Refused asked why) in
-      behind_parts tells told spaces o new s old.config old.instance (e ∷ old.history) old.disk a.config a.instance a.history disk
-      (behind_quiet tells told spaces o old.config old.instance old.history old.disk s e (refused_still asked why) b)
+      behind_parts seen o new s old.config old.instance (e ∷ old.history) old.disk a.config a.instance a.history disk
+      (behind_quiet seen o old.config old.instance old.history old.disk s e (refused_still asked why) b)
 
-  pub wrote_but : (size faults : D → ℕ) (s t : FramesSeen) (old mid new : State D) (by : Caller) (p : PageId) (f lsn upto : ℕ) (bytes : List ℕ) → (but : But s old p f) → mid ≡ on_disk old mid.disk
-      → IsPage p bytes but.content → IsOtherwiseSame size tells told spaces faults p old.disk mid.disk → (tells old.disk ≡ true → told mid.disk p ≡ Some bytes) → (tells mid.disk ≡ false → told mid.disk p ≡ None)
+  pub wrote_but : (s t : FramesSeen) (old mid new : State D) (by : Caller) (p : PageId) (f lsn upto : ℕ) (bytes : List ℕ) → (but : But s old p f) → mid ≡ on_disk old mid.disk
+      → IsPage p bytes but.content → IsOtherwiseSame p (seen old.disk) (seen mid.disk) → ((seen old.disk).tells ≡ true → (seen mid.disk).told p ≡ Some bytes) → ((seen mid.disk).tells ≡ false → (seen mid.disk).told p ≡ None)
       → IsAppended mid new by (kind.Write p lsn upto) → new.disk ≡ mid.disk → t ≡ appended s (next_entry mid by (kind.Write p lsn upto)) → But t new p f
-  wrote_but size faults s t old mid new by p f lsn upto bytes but kept page others ok silent a disk seen =
+  wrote_but s t old mid new by p f lsn upto bytes but kept page others ok silent a disk shown =
       let e = next_entry (on_disk old mid.disk) by (kind.Write p lsn upto) in
       let added : IsAppended (on_disk old mid.disk) new by (kind.Write p lsn upto) = subst (λ (m : State D). IsAppended m new by (kind.Write p lsn upto)) kept a in
-      let looks : t ≡ appended s e = seen ∙ ap (λ (m : State D). appended s (next_entry m by (kind.Write p lsn upto))) kept in
+      let looks : t ≡ appended s e = shown ∙ ap (λ (m : State D). appended s (next_entry m by (kind.Write p lsn upto))) kept in
       subst (λ (u : FramesSeen). But u new p f) (sym looks)
       (subst (λ (x : State D). But (appended s e) x p f) (sym (desk_is new old.config old.instance (e ∷ old.history) mid.disk added.config added.instance added.history disk))
-      (but_wrote size faults s old.config old.instance old.history old.disk mid.disk p f e.place by.pass by.number lsn upto bytes but page others ok silent))
+      (but_wrote s old.config old.instance old.history old.disk mid.disk p f e.place by.pass by.number lsn upto bytes but page others ok silent))
 
-  pub wrote_behind : (size faults : D → ℕ) (o : Opened) (s t : FramesSeen) (old mid new : State D) (by : Caller) (p : PageId) (f lsn upto : ℕ) (bytes : List ℕ) → (but : But s old p f) → mid ≡ on_disk old mid.disk
-      → IsPage p bytes but.content → IsOtherwiseSame size tells told spaces faults p old.disk mid.disk → (tells old.disk ≡ true → told mid.disk p ≡ Some bytes) → (tells mid.disk ≡ false → told mid.disk p ≡ None)
-      → IsAppended mid new by (kind.Write p lsn upto) → new.disk ≡ mid.disk → t ≡ appended s (next_entry mid by (kind.Write p lsn upto)) → IsBehind tells told spaces o old s → IsBehind tells told spaces o new t
-  wrote_behind size faults o s t old mid new by p f lsn upto bytes but kept page others ok silent a disk seen b =
+  pub wrote_behind : (o : Opened) (s t : FramesSeen) (old mid new : State D) (by : Caller) (p : PageId) (f lsn upto : ℕ) (bytes : List ℕ) → (but : But s old p f) → mid ≡ on_disk old mid.disk
+      → IsPage p bytes but.content → IsOtherwiseSame p (seen old.disk) (seen mid.disk) → ((seen old.disk).tells ≡ true → (seen mid.disk).told p ≡ Some bytes) → ((seen mid.disk).tells ≡ false → (seen mid.disk).told p ≡ None)
+      → IsAppended mid new by (kind.Write p lsn upto) → new.disk ≡ mid.disk → t ≡ appended s (next_entry mid by (kind.Write p lsn upto)) → IsBehind seen o old s → IsBehind seen o new t
+  wrote_behind o s t old mid new by p f lsn upto bytes but kept page others ok silent a disk shown b =
       let e = next_entry (on_disk old mid.disk) by (kind.Write p lsn upto) in
       let added : IsAppended (on_disk old mid.disk) new by (kind.Write p lsn upto) = subst (λ (m : State D). IsAppended m new by (kind.Write p lsn upto)) kept a in
       let is : value o.size o.base old.history p ≡ Some but.content = subst (λ (x : Option (Option Content)). IsValueIn o s x (value o.size o.base old.history p)) but.image (b.values p f but.housed) in
-      behind_frames tells told spaces o new s t (ap (λ (u : FramesSeen). u.rows) seen) (ap (λ (u : FramesSeen). u.base) seen)
-      (behind_parts tells told spaces o new s old.config old.instance (e ∷ old.history) mid.disk added.config added.instance added.history disk
-      (behind_wrote tells told spaces o size faults old.config old.instance old.history s old.disk mid.disk e.place by.pass by.number p lsn upto but.content bytes is page others ok silent b))
+      behind_frames seen o new s t (ap (λ (u : FramesSeen). u.rows) shown) (ap (λ (u : FramesSeen). u.base) shown)
+      (behind_parts seen o new s old.config old.instance (e ∷ old.history) mid.disk added.config added.instance added.history disk
+      (behind_wrote seen o old.config old.instance old.history s old.disk mid.disk e.place by.pass by.number p lsn upto but.content bytes is page others ok silent b))
 
-  pub unwritten_but : (size faults : D → ℕ) (s : FramesSeen) (old new : State D) (p : PageId) (f : ℕ) → is_dirty old.history p ≡ true → new ≡ on_disk old new.disk
-      → IsOtherwiseSame size tells told spaces faults p old.disk new.disk → Fades (told old.disk p) (told new.disk p) → But s old p f → But s new p f
-  unwritten_but size faults s old new p f dirty_is kept others fades but =
-      subst (λ (x : State D). But s x p f) (sym kept) (but_unwritten size faults s old.config old.instance old.history old.disk new.disk p f dirty_is others fades but)
+  pub unwritten_but : (s : FramesSeen) (old new : State D) (p : PageId) (f : ℕ) → is_dirty old.history p ≡ true → new ≡ on_disk old new.disk
+      → IsOtherwiseSame p (seen old.disk) (seen new.disk) → Fades ((seen old.disk).told p) ((seen new.disk).told p) → But s old p f → But s new p f
+  unwritten_but s old new p f dirty_is kept others fades but =
+      subst (λ (x : State D). But s x p f) (sym kept) (but_unwritten s old.config old.instance old.history old.disk new.disk p f dirty_is others fades but)
 
-  pub unwritten_behind : (size faults : D → ℕ) (o : Opened) (s : FramesSeen) (old new : State D) (p : PageId) → is_dirty old.history p ≡ true → new ≡ on_disk old new.disk
-      → IsOtherwiseSame size tells told spaces faults p old.disk new.disk → Fades (told old.disk p) (told new.disk p) → IsBehind tells told spaces o old s → IsBehind tells told spaces o new s
-  unwritten_behind size faults o s old new p dirty_is kept others fades b =
-      subst (λ (x : State D). IsBehind tells told spaces o x s) (sym kept) (behind_unwritten tells told spaces o size faults old.config old.instance old.history s old.disk new.disk p dirty_is others fades b)
+  pub unwritten_behind : (o : Opened) (s : FramesSeen) (old new : State D) (p : PageId) → is_dirty old.history p ≡ true → new ≡ on_disk old new.disk
+      → IsOtherwiseSame p (seen old.disk) (seen new.disk) → Fades ((seen old.disk).told p) ((seen new.disk).told p) → IsBehind seen o old s → IsBehind seen o new s
+  unwritten_behind o s old new p dirty_is kept others fades b =
+      subst (λ (x : State D). IsBehind seen o x s) (sym kept) (behind_unwritten seen o old.config old.instance old.history s old.disk new.disk p dirty_is others fades b)
 
 -- an image that was lifted is laid back
 pub laid_back : (s : FramesSeen) (f : ℕ) (c : Content) → f < length s.rows → (row_at s f).image ≡ Some (Some c)

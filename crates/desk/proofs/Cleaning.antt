@@ -10,6 +10,7 @@ use Rattle.trail.specs.declared.event.Call.TheVariants as call
 use Rattle.trail.specs.declared.event.Cause.{Cause}
 use Rattle.trail.specs.declared.event.Cause.TheVariants as cause
 use Rattle.page_ids.specs.declared.config.Config.{Config}
+use Rattle.page_disk.specs.Disks.{DiskSeen}
 use Rattle.trail.specs.declared.event.Dirty.{Dirty}
 use Rattle.trail.specs.declared.event.Entry.{Entry}
 use Rattle.trail.specs.declared.event.Kind.TheVariants as kind
@@ -134,11 +135,11 @@ pub fault_wider : (disk_was disk_is log_was log_is disk log : ℕ) (e : WriteErr
 fault_wider disk_was disk_is log_was log_is disk log (unwritten.RedoFault before after) d l is = rose_wider log_was log_is log log_is before after l (omega arith) is
 fault_wider disk_was disk_is log_was log_is disk log (unwritten.DiskFault before after) d l is = rose_wider disk_was disk_is disk disk_is before after d (omega arith) is
 
-module _ {D : Type 0} (size : D → ℕ) (tells : D → Bool) (spaces : D → ℕ → Option ℕ) (faults : D → ℕ) where
-  pub leaves_same : (s : State D) → LeavesDesk size tells spaces faults s s
+module _ {D : Type 0} (seen : D → DiskSeen) where
+  pub leaves_same : (s : State D) → LeavesDesk seen s s
   leaves_same s = record { config = refl; instance = refl; sizes = refl; telling = refl; spaces_are = λ n. refl; later = omega arith }
 
-  pub leaves_on : (a b c : State D) → LeavesDesk size tells spaces faults a b → LeavesDesk size tells spaces faults b c → LeavesDesk size tells spaces faults a c
+  pub leaves_on : (a b c : State D) → LeavesDesk seen a b → LeavesDesk seen b c → LeavesDesk seen a c
   leaves_on a b c x y = record {
     config = y.config ∙ x.config;
     instance = y.instance ∙ x.instance;
@@ -158,7 +159,7 @@ pub forced_behind : {D A : Type 0} (old mid new : D) (e : WriteErr) → mid ≡ 
 forced_behind old mid new (unwritten.RedoFault before after) same on forced = (tt, forced.1 ∙ same)
 forced_behind old mid new (unwritten.DiskFault before after) same on forced = tt
 
-module _ {D : Type 0} (faults : D → ℕ) (old room mid new : State D) (by : Caller) (bound n : ℕ) (sync : Bool) (same : room ≡ old) (writes : WritesBack room.config.first by n room.history mid.history) (most : n ≤ bound)
+module _ {D : Type 0} (seen : D → DiskSeen) (old room mid new : State D) (by : Caller) (bound n : ℕ) (sync : Bool) (same : room ≡ old) (writes : WritesBack room.config.first by n room.history mid.history) (most : n ≤ bound)
     (stop : IsStop n bound sync (dirty mid.history)) (config : mid.config ≡ room.config) (instance : mid.instance ≡ room.instance) (disk : new.disk ≡ mid.disk) where
   -- a clean was refused behind its writes
   uncleaned_is : (why : Cause) → IsAppended mid new by (kind.Refused (call.Clean bound) why) → IsUncleaned old new by bound sync why
@@ -184,10 +185,10 @@ module _ {D : Type 0} (faults : D → ℕ) (old room mid new : State D) (by : Ca
       (rose, uncleaned_is (cause.RedoFault before after) a, λ none. disk ∙ unused none ∙ ap (λ (x : State D). x.disk) same)
 
   -- as the disk failed
-  pub refused_by_disk : (log_was log_is before after : ℕ) → RoseWithin (faults room.disk) (faults mid.disk) before after → IsAppended mid new by (kind.Refused (call.Clean bound) (cause.DiskFault before after))
-      → IsCleanRefusal old new by bound sync (faults old.disk) (faults new.disk) log_was log_is (unclean.DiskFault before after)
+  pub refused_by_disk : (log_was log_is before after : ℕ) → RoseWithin (seen room.disk).faults (seen mid.disk).faults before after → IsAppended mid new by (kind.Refused (call.Clean bound) (cause.DiskFault before after))
+      → IsCleanRefusal old new by bound sync (seen old.disk).faults (seen new.disk).faults log_was log_is (unclean.DiskFault before after)
   refused_by_disk log_was log_is before after rose a = (
-    subst (λ (x : State D). RoseWithin (faults x.disk) (faults new.disk) before after) same (subst (λ (d : D). RoseWithin (faults room.disk) (faults d) before after) (sym disk) rose),
+    subst (λ (x : State D). RoseWithin (seen x.disk).faults (seen new.disk).faults before after) same (subst (λ (d : D). RoseWithin (seen room.disk).faults (seen d).faults before after) (sym disk) rose),
     uncleaned_is (cause.DiskFault before after) a,
   )
 

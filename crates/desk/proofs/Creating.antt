@@ -1,8 +1,8 @@
 -- A whole create, put together from its steps.
-use Rattle.std.proofs.Common.{◌≡◌, ◌<◌, ◌≤◌, ◌+◌, ℕ, Bool, List, ◌∷◌, Option, None, IfSome, length, refl, ap, ◌∙◌, sym, subst, arith, inl, inr, ◌⊎◌}
+use Rattle.std.proofs.Common.{◌≡◌, ◌<◌, ◌≤◌, ◌+◌, ℕ, List, ◌∷◌, Option, None, IfSome, length, refl, ap, ◌∙◌, sym, subst, arith, inl, inr, ◌⊎◌}
 use Rattle.page_ids.specs.Content.{Content}
 use Rattle.page_ids.specs.declared.ids.PageId.{PageId}
-use Rattle.page_disk.specs.Disks.{pages_in}
+use Rattle.page_disk.specs.Disks.{DiskSeen, pages_in}
 use Rattle.redo_mark.specs.Device.{Told}
 use Rattle.redo_mark.specs.Logs as log
 use Rattle.redo_mark.specs.Logs.{Seen, Holds, IsLater, IsKept}
@@ -41,21 +41,21 @@ pub length-create : (p : PageId) → length (head_of (create_change p)) ≡ 13
 length-create p = refl
 
 -- no frame was had
-pub unhad_create : {D : Type 0} (spaces : D → ℕ → Option ℕ) (faults : D → ℕ) (old new : State D) (rows now : List Row) (by : Caller) (held : ℕ) (p : PageId) (moment durable first last was is : ℕ) (e : FrameErr)
-    → p.page < pages_in (spaces old.disk) p.space → held < 64 → home old.history p ≡ None → now ≡ rows → IsUnhad old new rows by p (call.Create p moment) (faults old.disk) (faults new.disk) durable was is e
-    → IsCreateRefusal spaces faults old new rows now by held p moment durable first last was is (create_err_of e)
-unhad_create spaces faults old new rows now by held p moment durable first last was is unhad.OutOfMemory within few absent same un = (un, same)
-unhad_create spaces faults old new rows now by held p moment durable first last was is (unhad.AllFixed seen) within few absent same un =
+pub unhad_create : {D : Type 0} (seen : D → DiskSeen) (old new : State D) (rows now : List Row) (by : Caller) (held : ℕ) (p : PageId) (moment durable first last was is : ℕ) (e : FrameErr)
+    → p.page < pages_in (seen old.disk).spaces p.space → held < 64 → home old.history p ≡ None → now ≡ rows → IsUnhad old new rows by p (call.Create p moment) (seen old.disk).faults (seen new.disk).faults durable was is e
+    → IsCreateRefusal seen old new rows now by held p moment durable first last was is (create_err_of e)
+unhad_create seen old new rows now by held p moment durable first last was is unhad.OutOfMemory within few absent same un = (un, same)
+unhad_create seen old new rows now by held p moment durable first last was is (unhad.AllFixed words) within few absent same un =
     (within, few, record { absent = absent; full = un.0; entry = un.1; disk = un.2 }, same)
-unhad_create spaces faults old new rows now by held p moment durable first last was is (unhad.RedoFault before after) within few absent same un =
+unhad_create seen old new rows now by held p moment durable first last was is (unhad.RedoFault before after) within few absent same un =
     (within, few, record { absent = absent; rose = un.0; entry = un.1 }, same, un.2, un.3)
-unhad_create spaces faults old new rows now by held p moment durable first last was is (unhad.DiskFault before after) within few absent same un =
+unhad_create seen old new rows now by held p moment durable first last was is (unhad.DiskFault before after) within few absent same un =
     (within, few, record { absent = absent; rose = un.0; entry = un.1 }, same, un.2)
 
 -- the log is as it was where no device failed
 pub unforced_unused : {L : Type 0} (x y : L) (e : FrameErr) → IsUnforced x y e → IsUnused x y (create_err_of e)
 unforced_unused x y unhad.OutOfMemory same = same
-unforced_unused x y (unhad.AllFixed seen) same = same
+unforced_unused x y (unhad.AllFixed words) same = same
 unforced_unused x y (unhad.RedoFault before after) same = tt
 unforced_unused x y (unhad.DiskFault before after) same = tt
 
@@ -91,37 +91,37 @@ pub device_used : {D R : Type 0} (old : State D) (rows : List Row) (durable : �
 device_used old rows durable was mid is same (inl unused) = inl (same ∙ ap (λ (x : log.State _). x.disk) unused)
 device_used old rows durable was mid is same (inr must) = inr must
 
-module _ {D R : Type 0} (size : D → ℕ) (tells : D → Bool) (told : D → PageId → Option (List ℕ)) (spaces : D → ℕ → Option ℕ) (faults : D → ℕ) (logged : R → Option Told) where
+module _ {D R : Type 0} (seen : D → DiskSeen) (logged : R → Option Told) where
   -- the call was refused before anything else happened
   pub refused_leaves : (old new : State D) (s t : FramesSeen) (was : log.State R) (by : Caller) (asked : Call) (why : Cause) → ((x : Seen) → IsLoggedKind x (kind.Refused asked why)) → IsAppended old new by (kind.Refused asked why)
-      → new.disk ≡ old.disk → t.rows ≡ s.rows → AreTied tells told spaces t new → AreSettled s.rows → ((o : Opened) → IsBehind tells told spaces o old s → IsBehind tells told spaces o new t)
-      → LeavesAll size tells told spaces faults logged old new s t was was
+      → new.disk ≡ old.disk → t.rows ≡ s.rows → AreTied seen t new → AreSettled s.rows → ((o : Opened) → IsBehind seen o old s → IsBehind seen o new t)
+      → LeavesAll seen logged old new s t was was
   refused_leaves old new s t was by asked why kinds a disk rows tied settled behind = record {
     count = let e = ap (length {A = Entry}) a.history in omega (arith, e);
     tied = tied;
     settled = subst AreSettled (sym rows) settled;
-    desk = leaves_more size tells spaces faults old old new (leaves_none size tells spaces faults old) a.config a.instance disk;
+    desk = leaves_more seen old old new (leaves_none seen old) a.config a.instance disk;
     log = log_appended logged was was old.history old new by (kind.Refused asked why) kinds (λ n. refl) (λ m. tt) a (log_same logged was old.history);
     covered = inl refl;
     behind = λ o based before. behind o before;
   }
 
   -- nothing happened
-  pub none_leaves : (old : State D) (s : FramesSeen) (was : log.State R) → AreTied tells told spaces s old → AreSettled s.rows → LeavesAll size tells told spaces faults logged old old s s was was
+  pub none_leaves : (old : State D) (s : FramesSeen) (was : log.State R) → AreTied seen s old → AreSettled s.rows → LeavesAll seen logged old old s s was was
   none_leaves old s was tied settled = record {
     count = omega arith;
     tied = tied;
     settled = settled;
-    desk = leaves_none size tells spaces faults old;
+    desk = leaves_none seen old;
     log = log_same logged was old.history;
     covered = inl refl;
     behind = λ o based before. before;
   }
 
   -- what stands when a frame was had, or none
-  pub had_leaves : (old had : State D) (s t : FramesSeen) (was mid : log.State R) → length had.history ≤ length old.history + 2 → AreTied tells told spaces t had → AreSettled t.rows → LeavesDesk size tells spaces faults old had
-      → KeepsLog logged was mid old.history had.history → (mid ≡ was) ⊎ MustCover old s.rows was.seen.durable → ((o : Opened) → IsBehind tells told spaces o old s → IsBehind tells told spaces o had t)
-      → LeavesAll size tells told spaces faults logged old had s t was mid
+  pub had_leaves : (old had : State D) (s t : FramesSeen) (was mid : log.State R) → length had.history ≤ length old.history + 2 → AreTied seen t had → AreSettled t.rows → LeavesDesk seen old had
+      → KeepsLog logged was mid old.history had.history → (mid ≡ was) ⊎ MustCover old s.rows was.seen.durable → ((o : Opened) → IsBehind seen o old s → IsBehind seen o had t)
+      → LeavesAll seen logged old had s t was mid
   had_leaves old had s t was mid count tied settled desk log covered behind = record {
     count = omega (arith, count);
     tied = tied;
@@ -133,29 +133,29 @@ module _ {D R : Type 0} (size : D → ℕ) (tells : D → Bool) (told : D → Pa
   }
 
   -- the log was spent when a frame was had
-  pub spent_leaves : (old had new : State D) (s t u : FramesSeen) (was mid : log.State R) (by : Caller) (asked : Call) (end : ℕ) → length had.history ≤ length old.history + 2 → LeavesAll size tells told spaces faults logged old had s t was mid
-      → IsAppended had new by (kind.Refused asked (cause.LogSpent end)) → new.disk ≡ had.disk → end ≤ mid.seen.end → u.rows ≡ t.rows → AreTied tells told spaces u new
-      → ((o : Opened) → IsBehind tells told spaces o had t → IsBehind tells told spaces o new u) → LeavesAll size tells told spaces faults logged old new s u was mid
+  pub spent_leaves : (old had new : State D) (s t u : FramesSeen) (was mid : log.State R) (by : Caller) (asked : Call) (end : ℕ) → length had.history ≤ length old.history + 2 → LeavesAll seen logged old had s t was mid
+      → IsAppended had new by (kind.Refused asked (cause.LogSpent end)) → new.disk ≡ had.disk → end ≤ mid.seen.end → u.rows ≡ t.rows → AreTied seen u new
+      → ((o : Opened) → IsBehind seen o had t → IsBehind seen o new u) → LeavesAll seen logged old new s u was mid
   spent_leaves old had new s t u was mid by asked end count leaves a disk within rows tied behind = record {
     count = let e = ap (length {A = Entry}) a.history in omega (arith, e, count);
     tied = tied;
     settled = subst AreSettled (sym rows) leaves.settled;
-    desk = leaves_more size tells spaces faults old had new leaves.desk a.config a.instance disk;
+    desk = leaves_more seen old had new leaves.desk a.config a.instance disk;
     log = log_spent logged was mid old.history had.history new.history had.config.first by asked end leaves.log within a.history;
     covered = leaves.covered;
     behind = λ o based before. behind o (leaves.behind o based before);
   }
 
   -- the page was made in the frame that was had
-  pub made_leaves : (old had new : State D) (s t u : FramesSeen) (was mid is : log.State R) (by : Caller) (p : PageId) (now start : ℕ) (g : Granted) → length had.history ≤ length old.history + 2 → LeavesAll size tells told spaces faults logged old had s t was mid
-      → t.base ≡ s.base → IsMade had new t.rows u.rows by p now start g → AreTied tells told spaces u new → AreSettled u.rows → LeavesDesk size tells spaces faults had new → IsLater mid.seen is.seen
+  pub made_leaves : (old had new : State D) (s t u : FramesSeen) (was mid is : log.State R) (by : Caller) (p : PageId) (now start : ℕ) (g : Granted) → length had.history ≤ length old.history + 2 → LeavesAll seen logged old had s t was mid
+      → t.base ≡ s.base → IsMade had new t.rows u.rows by p now start g → AreTied seen u new → AreSettled u.rows → LeavesDesk seen had new → IsLater mid.seen is.seen
       → (is.disk ≡ mid.disk) × (is.opening ≡ mid.opening) → is.seen.durable ≡ mid.seen.durable → IsKept is.seen (logged is.disk) → Holds is.seen (record_of (create_change p) start) start → start + 21 ≤ is.seen.end
-      → ((o : Opened) → IfSome t.base (λ base. base ≡ o.base) → IsBehind tells told spaces o had t → IsBehind tells told spaces o new u) → LeavesAll size tells told spaces faults logged old new s u was is
+      → ((o : Opened) → IfSome t.base (λ base. base ≡ o.base) → IsBehind seen o had t → IsBehind seen o new u) → LeavesAll seen logged old new s u was is
   made_leaves old had new s t u was mid is by p now start g count leaves base made tied settled desk later disk durable kept holds within behind = record {
     count = let e = ap (length {A = Entry}) made.entry.history in omega (arith, e, count);
     tied = tied;
     settled = settled;
-    desk = leaves_on size tells spaces faults old had new leaves.desk desk;
+    desk = leaves_on seen old had new leaves.desk desk;
     log = log_created logged was mid is old.history had.history new.history had.config.first by p g.frame start now leaves.log later disk.1 durable kept holds within made.entry.history;
     covered = still_used leaves.covered;
     behind = λ o based before. behind o (subst (λ (b : Option (PageId → Option Content)). IfSome b (λ base. base ≡ o.base)) (sym base) based) (leaves.behind o based before);

@@ -1,5 +1,5 @@
 -- A whole eviction, put together from its steps.
-use Rattle.std.proofs.Common.{◌≡◌, ◌<◌, ◌≤◌, ◌+◌, ℕ, Bool, true, false, List, [], ◌∷◌, Option, None, Some, IfSome, length, set, length-set, refl, ap, ◌∙◌, sym, subst, arith, inl, inr, append-nil, ◌⊎◌, IsSome, get_or}
+use Rattle.std.proofs.Common.{◌≡◌, ◌<◌, ◌≤◌, ◌+◌, ℕ, Bool, true, false, List, [], ◌∷◌, Option, None, Some, IfSome, length, set, length-set, refl, ap, ◌∙◌, sym, subst, arith, inl, inr, append-nil, ◌⊎◌, get_or}
 use Rattle.std.proofs.lemmas.List.{set-set, set-get_or}
 use mathlib.Core.Logic.{dite}
 use native.Mathlib.Decide.{ℕ_discrete}
@@ -9,6 +9,7 @@ use Rattle.page_ids.specs.Same.{same_page}
 use Rattle.page_ids.specs.declared.config.Config.{Config}
 use Rattle.page_ids.specs.declared.frame_word.Word.{Word}
 use Rattle.page_ids.specs.declared.ids.PageId.{PageId}
+use Rattle.page_disk.specs.Disks.{DiskSeen}
 use Rattle.redo_mark.specs.Device.{Told}
 use Rattle.redo_mark.specs.Logs as log
 use Rattle.redo_mark.specs.Logs.{Seen, Grows}
@@ -19,7 +20,7 @@ use Rattle.trail.specs.declared.event.Held.{Held}
 use Rattle.trail.specs.declared.event.Kind.{Kind}
 use Rattle.trail.specs.declared.event.Kind.TheVariants as kind
 use Rattle.trail.specs.declared.event.Call.{Call}
-use Rattle.trail.specs.Book.{book, next_frame}
+use Rattle.trail.specs.Book.{book, frame_in_turn}
 use Rattle.trail.specs.History.{home}
 use Rattle.trail.specs.Dirt.{is_dirty, log_end, log_end_after}
 use Rattle.trail.specs.Victim.{walk}
@@ -42,7 +43,7 @@ use Rattle.desk.specs.declared.flush.WriteErr.TheVariants as unwritten
 use Rattle.desk.proofs.Dirt.{same_is}
 use Rattle.desk.proofs.PassedWords.{AreInOrder, passed_by_are}
 use Rattle.desk.proofs.Logging.{upto_none, upto_more}
-use Rattle.desk.proofs.Finding.{no_front, sought_is}
+use Rattle.desk.proofs.Finding.{sought_at, sought_is}
 use Rattle.desk.proofs.Claims.{resident_at, tied_looked, behind_looked, claimed_image, tied_claim, behind_claim, row_here, row_there, row_back, on_disk}
 
 -- a page without a home is another one than a page with one
@@ -134,33 +135,33 @@ log_same told s h = record {
   mark = inl refl;
 }
 
-module _ {D : Type 0} (tells : D → Bool) (told : D → PageId → Option (List ℕ)) (spaces : D → ℕ → Option ℕ) where
-  pub taken_but : (s t : FramesSeen) (desk : State D) (p : PageId) (f clock : ℕ) → AreTied tells told spaces s desk → AreOrderly desk.config desk.history → next_frame (book desk.config desk.history) ≡ None
-      → IsTaken s t desk.history p f clock → AreTiedBut tells told spaces t desk p f
+module _ {D : Type 0} (seen : D → DiskSeen) where
+  pub taken_but : (s t : FramesSeen) (desk : State D) (p : PageId) (f clock : ℕ) → AreTied seen s desk → AreOrderly desk.config desk.history → frame_in_turn (book desk.config desk.history) ≡ None
+      → IsTaken s t desk.history p f clock → AreTiedBut seen t desk p f
   taken_but s t desk p f clock tied orderly none_free taken =
       let claimed = taken.claimed in
       let mid = claimed.mid in
-      let tied_mid = tied_looked tells told spaces s mid desk claimed.looked tied in
+      let tied_mid = tied_looked seen s mid desk claimed.looked tied in
       let below = orderly.below p f taken.housed in
       let alone : (q : PageId) → home desk.history q ≡ Some f → q ≡ p = λ q is. orderly.alone p q f taken.housed is in
-      let has = claimed_image tells told spaces mid desk p f claimed.image tied_mid taken.housed alone below claimed.uncovered in
-      subst (λ (u : FramesSeen). AreTiedBut tells told spaces u desk p f) (sym claimed.is)
-      (tied_claim tells told spaces mid desk p f claimed.image tied_mid taken.housed alone below none_free orderly.no_area has)
+      let has = claimed_image seen mid desk p f claimed.image tied_mid taken.housed alone below claimed.uncovered in
+      subst (λ (u : FramesSeen). AreTiedBut seen u desk p f) (sym claimed.is)
+      (tied_claim seen mid desk p f claimed.image tied_mid taken.housed alone below none_free orderly.no_area has)
 
-  pub taken_behind : (o : Opened) (s t : FramesSeen) (desk : State D) (p : PageId) (f clock : ℕ) → AreTied tells told spaces s desk → AreOrderly desk.config desk.history → IsTaken s t desk.history p f clock
-      → IsBehind tells told spaces o desk s → IsBehind tells told spaces o desk t
+  pub taken_behind : (o : Opened) (s t : FramesSeen) (desk : State D) (p : PageId) (f clock : ℕ) → AreTied seen s desk → AreOrderly desk.config desk.history → IsTaken s t desk.history p f clock
+      → IsBehind seen o desk s → IsBehind seen o desk t
   taken_behind o s t desk p f clock tied orderly taken b =
       let claimed = taken.claimed in
       let mid = claimed.mid in
-      let tied_mid = tied_looked tells told spaces s mid desk claimed.looked tied in
+      let tied_mid = tied_looked seen s mid desk claimed.looked tied in
       let below = orderly.below p f taken.housed in
       let alone : (q : PageId) → home desk.history q ≡ Some f → q ≡ p = λ q is. orderly.alone p q f taken.housed is in
-      let has = claimed_image tells told spaces mid desk p f claimed.image tied_mid taken.housed alone below claimed.uncovered in
-      subst (λ (u : FramesSeen). IsBehind tells told spaces o desk u) (sym claimed.is)
-      (behind_claim tells told spaces o mid desk p f claimed.image tied_mid below alone has (behind_looked tells told spaces o s mid desk claimed.looked b))
+      let has = claimed_image seen mid desk p f claimed.image tied_mid taken.housed alone below claimed.uncovered in
+      subst (λ (u : FramesSeen). IsBehind seen o desk u) (sym claimed.is)
+      (behind_claim seen o mid desk p f claimed.image tied_mid below alone has (behind_looked seen o s mid desk claimed.looked b))
 
   -- what was claimed and is published again is as it was
-  pub taken_back : (s t : FramesSeen) (desk : State D) (p : PageId) (f clock : ℕ) → AreTied tells told spaces s desk → AreOrderly desk.config desk.history → AreSettled s.rows → IsTaken s t desk.history p f clock
+  pub taken_back : (s t : FramesSeen) (desk : State D) (p : PageId) (f clock : ℕ) → AreTied seen s desk → AreOrderly desk.config desk.history → AreSettled s.rows → IsTaken s t desk.history p f clock
       → set t.rows f (published_row (row_at t f) p clock) ≡ s.rows
   taken_back s t desk p f clock tied orderly settled taken =
       let claimed = taken.claimed in
@@ -199,20 +200,14 @@ forced_on old new (unwritten.RedoFault before after) on forced = (on forced.0, f
 forced_on old new (unwritten.DiskFault before after) on forced = tt
 
 -- a dirty victim has to be written
-unfoldable pub must_write : {D : Type 0} (s t : FramesSeen) (old : State D) (p : PageId) (f clock : ℕ) (found : Option (List (ℕ × Word))) (passed : List (ℕ × Word)) → next_frame (book old.config old.history) ≡ None → s.visit ≡ None
+unfoldable pub must_write : {D : Type 0} (s t : FramesSeen) (old : State D) (p : PageId) (f clock : ℕ) (found : Option (List (ℕ × Word))) (passed : List (ℕ × Word)) → AreOrderly old.config old.history → frame_in_turn (book old.config old.history) ≡ None → s.visit ≡ None
     → IsTaken s t old.history p f clock → StopsAt old.history s.rows found (walk old.config old.history) p passed → is_dirty old.history p ≡ true → MustWrite old s.rows
-must_write s t old p f clock found passed none_free alone taken stops soiled = record {
+must_write s t old p f clock found passed orderly none_free alone taken stops soiled = record {
   victim = p;
   frame = f;
   passed = passed;
   none_free = none_free;
-  sought = record {
-    before = stops.before;
-    after = stops.after;
-    none_free = no_front (book old.config old.history) none_free;
-    split = stops.split;
-    passed_are = passed_by_are old.history s.rows found stops.before passed stops.passed_are;
-  };
+  sought = sought_at old.config old.history p stops.before stops.after passed orderly none_free stops.split (passed_by_are old.history s.rows found stops.before passed stops.passed_are);
   found = stops.passed_are.seen;
   housed = taken.housed;
   unfixed = taken_unfixed s t old.history p f clock alone taken;
@@ -220,29 +215,29 @@ must_write s t old p f clock found passed none_free alone taken stops soiled = r
 }
 
 -- the log was used for a victim, where it was used
-pub must_cover : {D L : Type 0} {x y : L} (s t : FramesSeen) (old : State D) (p : PageId) (f clock durable : ℕ) (found : Option (List (ℕ × Word))) (passed : List (ℕ × Word)) → next_frame (book old.config old.history) ≡ None → s.visit ≡ None
+pub must_cover : {D L : Type 0} {x y : L} (s t : FramesSeen) (old : State D) (p : PageId) (f clock durable : ℕ) (found : Option (List (ℕ × Word))) (passed : List (ℕ × Word)) → AreOrderly old.config old.history → frame_in_turn (book old.config old.history) ≡ None → s.visit ≡ None
     → IsTaken s t old.history p f clock → StopsAt old.history s.rows found (walk old.config old.history) p passed → (y ≡ x) ⊎ IsAhead old.history p durable → (y ≡ x) ⊎ MustCover old s.rows durable
 unfolding must_write
-must_cover s t old p f clock durable found passed none_free alone taken stops (inl same) = inl same
-must_cover s t old p f clock durable found passed none_free alone taken stops (inr ahead) =
-    inr (record { write = must_write s t old p f clock found passed none_free alone taken stops (ahead_dirty old.history p durable ahead); ahead = ahead })
+must_cover s t old p f clock durable found passed orderly none_free alone taken stops (inl same) = inl same
+must_cover s t old p f clock durable found passed orderly none_free alone taken stops (inr ahead) =
+    inr (record { write = must_write s t old p f clock found passed orderly none_free alone taken stops (ahead_dirty old.history p durable ahead); ahead = ahead })
 
 -- an entry behind a change of the disk alone
 pub appended_on : {D : Type 0} (old mid new : State D) (by : Caller) (k : Kind) → mid ≡ on_disk old mid.disk → IsAppended mid new by k → IsAppended old new by k
 appended_on old mid new by k kept a = let b = subst (λ (m : State _). IsAppended m new by k) kept a in record { config = b.config; instance = b.instance; history = b.history }
 
 -- the evict of a page that was clean, or was written first
-pub evicted_is : {D : Type 0} (s t u : FramesSeen) (old mid new : State D) (by : Caller) (p : PageId) (f clock : ℕ) (found : Option (List (ℕ × Word))) (passed words : List (ℕ × Word)) → next_frame (book old.config old.history) ≡ None → s.visit ≡ None
+pub evicted_is : {D : Type 0} (s t u : FramesSeen) (old mid new : State D) (by : Caller) (p : PageId) (f clock : ℕ) (found : Option (List (ℕ × Word))) (passed words : List (ℕ × Word)) → AreOrderly old.config old.history → frame_in_turn (book old.config old.history) ≡ None → s.visit ≡ None
     → (taken : IsTaken s t old.history p f clock) → (stops : StopsAt old.history s.rows found (walk old.config old.history) p passed) → AreInOrder old.history s.rows found stops.before words
     → IsCleanedFirst old.config.first by p old.history mid.history → (is_dirty old.history p ≡ false → new.disk ≡ old.disk) → mid.config ≡ old.config → mid.instance ≡ old.instance → IsAppended mid new by (kind.Evict p f words) → u.rows ≡ t.rows
     → IsHad old new s.rows u.rows by f
-evicted_is s t u old mid new by p f clock found passed words none_free alone taken stops are cleaned unused config instance a rows = inr (record {
+evicted_is s t u old mid new by p f clock found passed words orderly none_free alone taken stops are cleaned unused config instance a rows = inr (record {
   page = p;
   passed = words;
   mid = mid.history;
   image = taken.claimed.image;
   none_free = none_free;
-  sought = sought_is old.config old.history s.rows found p passed words none_free stops are;
+  sought = sought_is old.config old.history s.rows found p passed words orderly none_free stops are;
   found = are.seen;
   rising = are.rising;
   housed = taken.housed;
@@ -298,16 +293,16 @@ fault_logged x asked (unwritten.RedoFault before after) = tt
 fault_logged x asked (unwritten.DiskFault before after) = tt
 
 -- a step that leaves numbers and disk
-pub leaves_more : {D : Type 0} (size : D → ℕ) (tells : D → Bool) (spaces : D → ℕ → Option ℕ) (faults : D → ℕ) (old mid new : State D) → LeavesDesk size tells spaces faults old mid
-    → new.config ≡ mid.config → new.instance ≡ mid.instance → new.disk ≡ mid.disk → LeavesDesk size tells spaces faults old new
-leaves_more size tells spaces faults old mid new leaves config instance disk = record {
+pub leaves_more : {D : Type 0} (seen : D → DiskSeen) (old mid new : State D) → LeavesDesk seen old mid
+    → new.config ≡ mid.config → new.instance ≡ mid.instance → new.disk ≡ mid.disk → LeavesDesk seen old new
+leaves_more seen old mid new leaves config instance disk = record {
   config = config ∙ leaves.config;
   instance = instance ∙ leaves.instance;
-  sizes = ap size disk ∙ leaves.sizes;
-  telling = ap tells disk ∙ leaves.telling;
-  spaces_are = λ n. ap (λ (d : _). spaces d n) disk ∙ leaves.spaces_are n;
-  later = let e = ap faults disk in let l = leaves.later in omega (arith, e, l);
+  sizes = ap (λ d. (seen d).size) disk ∙ leaves.sizes;
+  telling = ap (λ d. (seen d).tells) disk ∙ leaves.telling;
+  spaces_are = λ n. ap (λ (d : _). (seen d).spaces n) disk ∙ leaves.spaces_are n;
+  later = let e = ap (λ d. (seen d).faults) disk in let l = leaves.later in omega (arith, e, l);
 }
 
-pub leaves_none : {D : Type 0} (size : D → ℕ) (tells : D → Bool) (spaces : D → ℕ → Option ℕ) (faults : D → ℕ) (s : State D) → LeavesDesk size tells spaces faults s s
-leaves_none size tells spaces faults s = record { config = refl; instance = refl; sizes = refl; telling = refl; spaces_are = λ n. refl; later = omega arith }
+pub leaves_none : {D : Type 0} (seen : D → DiskSeen) (s : State D) → LeavesDesk seen s s
+leaves_none seen s = record { config = refl; instance = refl; sizes = refl; telling = refl; spaces_are = λ n. refl; later = omega arith }

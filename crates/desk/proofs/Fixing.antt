@@ -6,14 +6,14 @@ use Rattle.page_ids.specs.Content.{Content}
 use Rattle.page_ids.specs.Same.{same_page}
 use Rattle.page_ids.specs.declared.ids.PageId.{PageId}
 use Rattle.page_ids.specs.declared.layout.BadPage.{BadPage}
-use Rattle.page_disk.specs.Disks.{pages_in, IsInside, IsSameDisk}
+use Rattle.page_disk.specs.Disks.{DiskSeen, pages_in, IsInside, IsSameDisk}
 use Rattle.redo_mark.specs.Logs.{Seen}
 use Rattle.trail.specs.declared.event.Call.TheVariants as call
 use Rattle.trail.specs.declared.event.Dirty.{Dirty}
 use Rattle.trail.specs.declared.event.Entry.{Entry}
 use Rattle.trail.specs.declared.event.Held.{Held}
 use Rattle.trail.specs.declared.event.Kind.{Kind}
-use Rattle.trail.specs.Book.{book, next_frame}
+use Rattle.trail.specs.Book.{book, frame_in_turn}
 use Rattle.trail.specs.History.{home, value}
 use Rattle.trail.specs.Dirt.{dirty, dirt_of, is_dirty, cleaned, log_end, log_end_after}
 use Rattle.frame_words.specs.Rows.{Row, reached, held_row}
@@ -47,9 +47,9 @@ one_more old new by k kinds ends marks a = record {
 }
 
 -- a step that leaves numbers and what the disk tells
-pub leaves_told : {D : Type 0} (size : D → ℕ) (tells : D → Bool) (told : D → PageId → Option (List ℕ)) (spaces : D → ℕ → Option ℕ) (faults : D → ℕ) (old new : State D)
-    → new.config ≡ old.config → new.instance ≡ old.instance → IsSameDisk size tells told spaces faults old.disk new.disk → LeavesDesk size tells spaces faults old new
-leaves_told size tells told spaces faults old new config instance same = record {
+pub leaves_told : {D : Type 0} (seen : D → DiskSeen) (old new : State D)
+    → new.config ≡ old.config → new.instance ≡ old.instance → IsSameDisk (seen old.disk) (seen new.disk) → LeavesDesk seen old new
+leaves_told seen old new config instance same = record {
   config = config;
   instance = instance;
   sizes = same.sizes;
@@ -142,16 +142,16 @@ pub full_held : (o : Option (List Held)) (held : ℕ) → 64 ≤ held → IfSome
 full_held None held full is = tt
 full_held (Some x) held full is = let same = is.0 in let most = is.1 in omega (arith, full, same, most)
 
-pub still_inside : {D : Type 0} (spaces : D → ℕ → Option ℕ) (d e : D) (p : PageId) → ((n : ℕ) → spaces e n ≡ spaces d n) → IsInside (spaces d) p → IsInside (spaces e) p
-still_inside spaces d e p same is = subst (λ (o : Option ℕ). IsSomeAnd o (λ n. p.page < n)) (sym (same p.space)) is
+pub still_inside : {D : Type 0} (seen : D → DiskSeen) (d e : D) (p : PageId) → ((n : ℕ) → (seen e).spaces n ≡ (seen d).spaces n) → IsInside (seen d).spaces p → IsInside (seen e).spaces p
+still_inside seen d e p same is = subst (λ (o : Option ℕ). IsSomeAnd o (λ n. p.page < n)) (sym (same p.space)) is
 
-module _ {D : Type 0} (told : D → PageId → Option (List ℕ)) (spaces : D → ℕ → Option ℕ) (faults : D → ℕ) where
+module _ {D : Type 0} (seen : D → DiskSeen) where
   -- no frame was had
-  pub unhad_refused : (old new : State D) (rows now : List Row) (by : Caller) (held : ℕ) (p : PageId) (moment durable was is : ℕ) (e : FrameErr) → p.page < pages_in (spaces old.disk) p.space → held < 64
-      → home old.history p ≡ None → now ≡ rows → IsUnhad old new rows by p (call.Fix p moment) (faults old.disk) (faults new.disk) durable was is e
-      → IsFixRefusal told spaces faults old new rows now by held p moment durable was is (fix_err_of e)
+  pub unhad_refused : (old new : State D) (rows now : List Row) (by : Caller) (held : ℕ) (p : PageId) (moment durable was is : ℕ) (e : FrameErr) → p.page < pages_in (seen old.disk).spaces p.space → held < 64
+      → home old.history p ≡ None → now ≡ rows → IsUnhad old new rows by p (call.Fix p moment) (seen old.disk).faults (seen new.disk).faults durable was is e
+      → IsFixRefusal seen old new rows now by held p moment durable was is (fix_err_of e)
   unhad_refused old new rows now by held p moment durable was is unhad.OutOfMemory within few absent same un = (un, same)
-  unhad_refused old new rows now by held p moment durable was is (unhad.AllFixed seen) within few absent same un =
+  unhad_refused old new rows now by held p moment durable was is (unhad.AllFixed words) within few absent same un =
       (within, few, record { absent = absent; full = un.0; entry = un.1; disk = un.2 }, same)
   unhad_refused old new rows now by held p moment durable was is (unhad.RedoFault before after) within few absent same un =
       (within, few, record { absent = absent; rose = un.0; entry = un.1 }, same, un.2, un.3)
@@ -159,17 +159,17 @@ module _ {D : Type 0} (told : D → PageId → Option (List ℕ)) (spaces : D �
       (within, few, inl (record { absent = absent; rose = un.0; entry = un.1 }, same, un.2))
 
   -- a frame was had, and the page not read
-  pub unread_refused : (old had new : State D) (rows cleared now : List Row) (by : Caller) (held : ℕ) (p : PageId) (moment durable was is f : ℕ) (e : FixErr) → p.page < pages_in (spaces old.disk) p.space → held < 64
-      → home old.history p ≡ None → faults old.disk ≤ faults had.disk → told had.disk p ≡ told old.disk p → IsHad old had rows cleared by f → now ≡ cleared → IsLoadRefusal told faults had new by p moment e
-      → IsFixRefusal told spaces faults old new rows now by held p moment durable was is e
+  pub unread_refused : (old had new : State D) (rows cleared now : List Row) (by : Caller) (held : ℕ) (p : PageId) (moment durable was is f : ℕ) (e : FixErr) → p.page < pages_in (seen old.disk).spaces p.space → held < 64
+      → home old.history p ≡ None → (seen old.disk).faults ≤ (seen had.disk).faults → (seen had.disk).told p ≡ (seen old.disk).told p → IsHad old had rows cleared by f → now ≡ cleared → IsLoadRefusal seen had new by p moment e
+      → IsFixRefusal seen old new rows now by held p moment durable was is e
   unread_refused old had new rows cleared now by held p moment durable was is f e within few absent later still had_is same un =
-      subst (λ (r : List Row). IsFixRefusal told spaces faults old new rows r by held p moment durable was is e) (sym same) (go e un)
+      subst (λ (r : List Row). IsFixRefusal seen old new rows r by held p moment durable was is e) (sym same) (go e un)
     where
-      go : (e : FixErr) → IsLoadRefusal told faults had new by p moment e → IsFixRefusal told spaces faults old new rows cleared by held p moment durable was is e
+      go : (e : FixErr) → IsLoadRefusal seen had new by p moment e → IsFixRefusal seen old new rows cleared by held p moment durable was is e
       go refusal.OutOfMemory un = absurd un
       go (refusal.NoSuchPage pages) un = absurd un
       go (refusal.HoldFull full) un = absurd un
-      go (refusal.AllFixed seen) un = absurd un
+      go (refusal.AllFixed words) un = absurd un
       go (refusal.RedoFault before after) un = absurd un
       go (refusal.DiskFault before after) un = (within, few, inr (record { absent = absent; had = had; frame = f; frame_is = had_is; page_told = still; because = (later, un) }))
       go (refusal.BadPage bad) un = (within, few, record { absent = absent; had = had; frame = f; frame_is = had_is; page_told = still; because = un })
@@ -177,25 +177,25 @@ module _ {D : Type 0} (told : D → PageId → Option (List ℕ)) (spaces : D �
 -- the log is as it was where no device failed
 pub unforced_unlogged : {L : Type 0} (x y : L) (e : FrameErr) → IsUnforced x y e → IsUnlogged x y (fix_err_of e)
 unforced_unlogged x y unhad.OutOfMemory same = same
-unforced_unlogged x y (unhad.AllFixed seen) same = same
+unforced_unlogged x y (unhad.AllFixed words) same = same
 unforced_unlogged x y (unhad.RedoFault before after) same = tt
 unforced_unlogged x y (unhad.DiskFault before after) same = tt
 
 -- nothing was read where no frame was had
 pub unhad_no_bad : (e : FrameErr) (bad : BadPage) → fix_err_of e ≡ refusal.BadPage bad → ⊥
 unhad_no_bad unhad.OutOfMemory bad is = absurd (cc)
-unhad_no_bad (unhad.AllFixed seen) bad is = absurd (cc)
+unhad_no_bad (unhad.AllFixed words) bad is = absurd (cc)
 unhad_no_bad (unhad.RedoFault before after) bad is = absurd (cc)
 unhad_no_bad (unhad.DiskFault before after) bad is = absurd (cc)
 
-pub unlogged_load : {D L : Type 0} (told : D → PageId → Option (List ℕ)) (faults : D → ℕ) (old new : State D) (by : Caller) (p : PageId) (now : ℕ) (x y : L) (e : FixErr) → IsLoadRefusal told faults old new by p now e → IsUnlogged x y e
-unlogged_load told faults old new by p now x y refusal.OutOfMemory un = absurd un
-unlogged_load told faults old new by p now x y (refusal.NoSuchPage pages) un = absurd un
-unlogged_load told faults old new by p now x y (refusal.HoldFull held) un = absurd un
-unlogged_load told faults old new by p now x y (refusal.AllFixed seen) un = absurd un
-unlogged_load told faults old new by p now x y (refusal.RedoFault before after) un = tt
-unlogged_load told faults old new by p now x y (refusal.DiskFault before after) un = tt
-unlogged_load told faults old new by p now x y (refusal.BadPage bad) un = tt
+pub unlogged_load : {D L : Type 0} (seen : D → DiskSeen) (old new : State D) (by : Caller) (p : PageId) (now : ℕ) (x y : L) (e : FixErr) → IsLoadRefusal seen old new by p now e → IsUnlogged x y e
+unlogged_load seen old new by p now x y refusal.OutOfMemory un = absurd un
+unlogged_load seen old new by p now x y (refusal.NoSuchPage pages) un = absurd un
+unlogged_load seen old new by p now x y (refusal.HoldFull held) un = absurd un
+unlogged_load seen old new by p now x y (refusal.AllFixed words) un = absurd un
+unlogged_load seen old new by p now x y (refusal.RedoFault before after) un = tt
+unlogged_load seen old new by p now x y (refusal.DiskFault before after) un = tt
+unlogged_load seen old new by p now x y (refusal.BadPage bad) un = tt
 
 none_some : {A : Type 0} (o : Option A) → o ≡ None → IsSome o → ⊥
 none_some None none some = no_way (sym some)
@@ -206,9 +206,9 @@ pub not_free : {P : Type 0} (o : Option ℕ) → o ≡ None → IsSome o → P
 not_free o none some = absurd (none_some o none some)
 
 -- a page that is not resident, inside its space, for a caller that holds fewer fixes than it may
-pub needs_a_frame : {D P : Type 0} (spaces : D → ℕ → Option ℕ) (old : State D) (held : ℕ) (p : PageId) → home old.history p ≡ None → p.page < pages_in (spaces old.disk) p.space → held < 64
-    → (IsSome (next_frame (book old.config old.history)) → P) → NeedsNoVictim spaces old held p → P
-needs_a_frame spaces old held p absent within few free (inl resident) = absurd (none_some (home old.history p) absent resident)
-needs_a_frame spaces old held p absent within few free (inr (inl outside)) = absurd (omega (arith, within, outside))
-needs_a_frame spaces old held p absent within few free (inr (inr (inl full))) = absurd (omega (arith, few, full))
-needs_a_frame spaces old held p absent within few free (inr (inr (inr some))) = free some
+pub needs_a_frame : {D P : Type 0} (seen : D → DiskSeen) (old : State D) (held : ℕ) (p : PageId) → home old.history p ≡ None → p.page < pages_in (seen old.disk).spaces p.space → held < 64
+    → (IsSome (frame_in_turn (book old.config old.history)) → P) → NeedsNoVictim seen old held p → P
+needs_a_frame seen old held p absent within few free (inl resident) = absurd (none_some (home old.history p) absent resident)
+needs_a_frame seen old held p absent within few free (inr (inl outside)) = absurd (omega (arith, within, outside))
+needs_a_frame seen old held p absent within few free (inr (inr (inl full))) = absurd (omega (arith, few, full))
+needs_a_frame seen old held p absent within few free (inr (inr (inr some))) = free some

@@ -15,7 +15,7 @@ use Rattle.trail.specs.declared.event.Entry.{Entry}
 use Rattle.trail.specs.History.{home}
 use Rattle.trail.specs.Dirt.{dirty, dirtied, cleaned, dirt_of, is_dirty, log_end}
 use Rattle.desk.specs.Ledger.{IsVacant}
-use Rattle.desk.specs.KeptLists.{KeepsHomes, KeepsDirty, AreLogged, page_in, node_of, newest_of, newest_in, after_change, after_write}
+use Rattle.desk.specs.KeptLists.{KeepsHomes, KeepsDirty, AreLogged, page_in, node_of, dirty_lsn, newest_in, after_change, after_write}
 use Rattle.desk.proofs.Dirt.{no_way, same_self, same_is, dirtied_here, dirtied_other, dirtied_is, cleaned_of, cleaned_absent}
 
 some_number : (a b : ℕ) → Some a ≡ Some b → a ≡ b
@@ -355,7 +355,7 @@ module _ (c : Config) (h : List Entry) (homes : PageId → Option ℕ) (tenants 
         was q true none = absurd (none_some f (sym none))
         was q false none = none
 
-        newest_are : (q : PageId) (g : ℕ) (b : Bool) → same_page p q ≡ b → cond b (Some f) (home h q) ≡ Some g → newest_in newest g ≡ newest_of h q
+        newest_are : (q : PageId) (g : ℕ) (b : Bool) → same_page p q ≡ b → cond b (Some f) (home h q) ≡ Some g → newest_in newest g ≡ dirty_lsn h q
         newest_are q g true same here =
             ap (newest_in newest) (sym (some_number f g here)) ∙ k.vacant f free
             ∙ sym (ap (option_map (λ (d : Dirty). d.newest)) (not_some (dirt_of (dirty h) q) (k.clean q (away q same))))
@@ -388,7 +388,7 @@ module _ (c : Config) (h : List Entry) (homes : PageId → Option ℕ) (tenants 
         was q true same none = clean_too q same
         was q false same none = k.clean q none
 
-        newest_are : (q : PageId) (g : ℕ) (b : Bool) → cond b None (home h q) ≡ Some g → newest_in newest g ≡ newest_of h q
+        newest_are : (q : PageId) (g : ℕ) (b : Bool) → cond b None (home h q) ≡ Some g → newest_in newest g ≡ dirty_lsn h q
         newest_are q g true there = absurd (none_some g there)
         newest_are q g false there = k.newest_are q g there
 
@@ -413,7 +413,7 @@ module _ (c : Config) (h : List Entry) (homes : PageId → Option ℕ) (tenants 
       logged = subst (λ (n : ℕ). AreLogged n (dirty new)) (sym ends) (subst (λ (l : List Dirty). AreLogged end l) (sym stays) (logged_after (dirty h) p (log_end h) start end ahead rises k.logged));
     }
       where
-        listed : (o : Option ℕ) → o ≡ newest_of h p → (after_change f start o flush).listed ≡ nodes h (dirtied p start end (dirty h))
+        listed : (o : Option ℕ) → o ≡ dirty_lsn h p → (after_change f start o flush).listed ≡ nodes h (dirtied p start end (dirty h))
         listed None is =
             ap (λ (l : List Node). let n : Node = record { frame = f; oldest = start } in n ∷ l) k.listed_are
             ∙ sym (nodes_anew h p f start end (dirty h) here (not_some (dirt_of (dirty h) p) (sym (some_newest (dirt_of (dirty h) p)) ∙ ap (is_some {T = ℕ}) (sym is))))
@@ -457,7 +457,7 @@ module _ (c : Config) (h : List Entry) (homes : PageId → Option ℕ) (tenants 
           (All-filter (λ (d : Dirty). not (same_page d.page p)) (λ d. (d.oldest ≤ log_end h) × (d.newest ≤ log_end h)) (dirty h) k.logged));
     }
       where
-        listed : (o : Option ℕ) → o ≡ newest_of h p → (after_write f o flush).listed ≡ nodes h (cleaned p (dirty h))
+        listed : (o : Option ℕ) → o ≡ dirty_lsn h p → (after_write f o flush).listed ≡ nodes h (cleaned p (dirty h))
         listed None is =
             k.listed_are
             ∙ ap (nodes h) (sym (cleaned_absent (dirty h) p (not_some (dirt_of (dirty h) p) (sym (some_newest (dirt_of (dirty h) p)) ∙ ap (is_some {T = ℕ}) (sym is)))))

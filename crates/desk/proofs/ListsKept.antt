@@ -1,6 +1,6 @@
 -- The lists stay those of the history as entries come.
 use Rattle.std.proofs.Common.{◌≡◌, ◌≢◌, ◌∙◌, ◌==◌, ◌+◌, ◌<◌, ◌≤◌, ◌++◌, ℕ, Bool, true, false, not, cond, List, [], ◌∷◌, length, set, drop, take, reverse, Option, Some, None, refl, sym, ap, subst, arith, inl, inr, eq-eqb}
-use Rattle.std.specs.Option.{option_map_or}
+use Rattle.std.specs.Option.{option_map, option_map_or}
 use Rattle.std.proofs.lemmas.List.{reverse-append, get_or-set_same, get_or-set_other, length-set}
 use Rattle.std.proofs.lemmas.Bool.{cases_eq}
 use Rattle.page_ids.specs.Midpoint.{Numbers, Order, numbers_of, read_in, touch, evict}
@@ -16,9 +16,9 @@ use Rattle.trail.specs.declared.event.Dirty.{Dirty}
 use Rattle.trail.specs.declared.event.Entry.{Entry}
 use Rattle.trail.specs.declared.event.Kind.{Kind}
 use Rattle.trail.specs.declared.event.Kind.TheVariants as kind
-use Rattle.trail.specs.Places.{mark}
+use Rattle.trail.specs.Trails.{mark}
 use Rattle.trail.specs.History.{home, home_after}
-use Rattle.trail.specs.Book.{Book, book, book_after, give_next, is_late, without, front, next_frame, use_frame}
+use Rattle.trail.specs.Book.{Book, Hand, book, book_after, give_next, is_late, without, front, frame_in_turn, use_frame}
 use Rattle.trail.specs.Dirt.{dirty, dirty_after, is_dirty, log_end, log_end_after}
 use Rattle.trail.specs.Order.{order, order_after}
 use Rattle.desk.specs.Ledger.{IsVacant}
@@ -93,9 +93,17 @@ vacant_from c h free hand f rest k e p here =
     let away : Absent f (f ∷ rest) = subst (λ (l : List ℕ). Absent f l) e (k.taken p f here) in
     away.0 refl
 
+owned_turn : (owned : Option Hand) (free : List ℕ) → option_map_or (λ (x : Hand). Some x.frame) owned (front free) ≡ front (in_turn (option_map (λ (x : Hand). x.frame) owned) free)
+owned_turn None free = refl
+owned_turn (Some x) free = refl
+
+no_owner : (owned : Option Hand) → option_map (λ (x : Hand). x.frame) owned ≡ None → owned ≡ None
+no_owner None e = refl
+no_owner (Some x) e = absurd (cc)
+
 -- the next frame is the first in turn
-pub next_is : (c : Config) (h : List Entry) (free : List ℕ) (hand : Option ℕ) → KeepsBook c h free hand → next_frame (book c h) ≡ front (in_turn hand free)
-next_is c h free hand k = ap next_frame k.book_is ∙ front_turn hand free
+pub next_is : (c : Config) (h : List Entry) (free : List ℕ) (hand : Option ℕ) → KeepsBook c h free hand → frame_in_turn (book c h) ≡ front (in_turn hand free)
+next_is c h free hand k = ap frame_in_turn k.book_is ∙ owned_turn k.owned free ∙ ap (λ (o : Option ℕ). front (in_turn o free)) k.hand_is
 
 -- Homes.
 pub homes_on : (c : Config) (h new : List Entry) (homes : PageId → Option ℕ) (tenants : List PageId) → ((p : PageId) → home new p ≡ home h p) → KeepsHomes c h homes tenants → KeepsHomes c new homes tenants
@@ -146,6 +154,8 @@ homes_evict c h new homes less tenants p after grown k = record {
 -- The book.
 pub book_on : (c : Config) (h new : List Entry) (free : List ℕ) (hand : Option ℕ) → ((p : PageId) → home new p ≡ home h p) → book c new ≡ book c h → KeepsBook c h free hand → KeepsBook c new free hand
 book_on c h new free hand same stays k = record {
+  owned = k.owned;
+  hand_is = k.hand_is;
   book_is = stays ∙ k.book_is;
   distinct = k.distinct;
   taken = λ p f here. k.taken p f (sym (same p) ∙ here);
@@ -157,6 +167,8 @@ book_load : (c : Config) (h new : List Entry) (free rest : List ℕ) (hand : Opt
 book_load c h new free rest hand p f after used turn k =
     let frames : AreFrames c.frames (f ∷ rest) = subst (λ (l : List ℕ). AreFrames c.frames l) turn k.distinct in
     record {
+      owned = None;
+      hand_is = refl;
       book_is = used ∙ ap (use_frame f) k.book_is ∙ ap (λ (l : List ℕ). plain_book c l None) (without_next hand free f rest turn frames.1);
       distinct = frames.2;
       taken = λ q g here. taken q g frames.1 (same_page p q) (sym (after q) ∙ here);
@@ -170,6 +182,8 @@ book_evict : (c : Config) (h new : List Entry) (homes : PageId → Option ℕ) (
     → ((q : PageId) → home new q ≡ cond (same_page p q) None (home h q)) → book c new ≡ book_after c.frames e (kind.Evict p f passed) (book c h) → in_turn hand free ≡ [] → home h p ≡ Some f
     → KeepsHomes c h homes tenants → KeepsBook c h free hand → KeepsBook c new free (Some f)
 book_evict c h new homes tenants free hand e p f passed after used turn here homed k = record {
+  owned = Some (record { frame = f; caller = e.caller; number = e.number });
+  hand_is = refl;
   book_is = used ∙ ap (book_after c.frames e (kind.Evict p f passed)) k.book_is;
   distinct = subst (λ (l : List ℕ). AreFrames c.frames (f ∷ l)) (sym none.1) (homed.housed p f here, tt, tt);
   taken = λ q g there. subst (λ (l : List ℕ). Absent g (f ∷ l)) (sym none.1) (away q g (same_page p q) refl (sym (after q) ∙ there), tt);
@@ -189,13 +203,13 @@ book_late : (c : Config) (h new : List Entry) (free : List ℕ) (hand : Option �
     → KeepsBook c h free hand → KeepsBook c new (drop 1 (in_turn hand free) ++ take 1 (in_turn hand free)) None
 book_late c h new free hand same gave k = by_turn (in_turn hand free) refl
   where
-    given : (l : List ℕ) → in_turn hand free ≡ l → AreFrames c.frames l → give_next c.frames (plain_book c free hand) ≡ plain_book c (drop 1 l ++ take 1 l) None
+    given : (l : List ℕ) → in_turn hand free ≡ l → AreFrames c.frames l → give_next c.frames (plain_book c free k.owned) ≡ plain_book c (drop 1 l ++ take 1 l) None
     given [] turn frames =
         let none = turn_empty hand free turn in
-        ap (λ (o : Option ℕ). give_next c.frames (plain_book c free o)) none.0 ∙ ap (λ (l : List ℕ). give_next c.frames (plain_book c l None)) none.1
+        ap (λ (o : Option Hand). give_next c.frames (plain_book c free o)) (no_owner k.owned (k.hand_is ∙ none.0)) ∙ ap (λ (l : List ℕ). give_next c.frames (plain_book c l None)) none.1
     given (f ∷ rest) turn frames =
-        let next : next_frame (plain_book c free hand) ≡ Some f = front_turn hand free ∙ ap front turn in
-        ap (λ (o : Option ℕ). option_map_or (λ f. Rattle.trail.specs.Book.give c.frames f (plain_book c free hand)) o (plain_book c free hand)) next
+        let next : frame_in_turn (plain_book c free k.owned) ≡ Some f = owned_turn k.owned free ∙ ap (λ (o : Option ℕ). front (in_turn o free)) k.hand_is ∙ ap front turn in
+        ap (λ (o : Option ℕ). option_map_or (λ f. Rattle.trail.specs.Book.give c.frames f (plain_book c free k.owned)) o (plain_book c free k.owned)) next
         ∙ ap (λ (l : List ℕ). plain_book c (l ++ f ∷ []) None) (without_next hand free f rest turn frames.1)
 
     turned : (l : List ℕ) → AreFrames c.frames l → AreFrames c.frames (drop 1 l ++ take 1 l)
@@ -210,6 +224,8 @@ book_late c h new free hand same gave k = by_turn (in_turn hand free) refl
     by_turn l turn =
         let frames : AreFrames c.frames l = subst (λ (l : List ℕ). AreFrames c.frames l) turn k.distinct in
         record {
+          owned = None;
+          hand_is = refl;
           book_is = gave ∙ ap (give_next c.frames) k.book_is ∙ given l turn frames;
           distinct = turned l frames;
           taken = λ p g here. away g l (subst (λ (l : List ℕ). Absent g l) turn (k.taken p g (sym (same p) ∙ here)));

@@ -10,7 +10,7 @@ use Rattle.flush_list.specs.View.{View as Flush, IsNew}
 use Rattle.trail.specs.declared.event.Entry.{Entry}
 use Rattle.trail.specs.declared.event.Kind.{Kind}
 use Rattle.trail.specs.declared.event.Kind.TheVariants as kind
-use Rattle.trail.specs.Places.{mark}
+use Rattle.trail.specs.Trails.{mark}
 use Rattle.trail.specs.History.{home, home_after}
 use Rattle.trail.specs.Book.{book, book_after}
 use Rattle.trail.specs.Dirt.{dirty, dirty_after, log_end, log_end_after}

@@ -14,10 +14,10 @@ use Rattle.page_ids.specs.declared.config.Config.{Config}
 use Rattle.midpoint_lru.specs.View.{View, Has, next_up}
 use Rattle.flush_list.specs.View.{View as Flush}
 use Rattle.trail.specs.declared.event.Entry.{Entry}
-use Rattle.trail.specs.Book.{Book, book, next_frame}
+use Rattle.trail.specs.Book.{Book, book, frame_in_turn, frames_there, is_in}
 use Rattle.trail.specs.Dirt.{dirty, log_end}
 use Rattle.trail.specs.Order.{order}
-use Rattle.trail.specs.Victim.{from_the_tail, frames_there, is_in}
+use Rattle.trail.specs.Victim.{from_the_tail}
 use Rattle.trail.specs.History.{home}
 use Rattle.desk.specs.Ledger.{IsVacant}
 use Rattle.desk.specs.KeptLists.{AreKept, KeepsHomes, KeepsOrder, Absent, in_turn, page_in}
@@ -210,12 +210,12 @@ module _ (c : Config) (h : List Entry) (homes : PageId → Option ℕ) (tenants 
           one_time : (n : ℕ) → 1 * n ≡ n
           one_time n = omega arith
 
-  pub next_vacant : (o : Option ℕ) → o ≡ next_frame (book c h) → IfSome o (λ f. IsVacant h f)
+  pub next_vacant : (o : Option ℕ) → o ≡ frame_in_turn (book c h) → IfSome o (λ f. IsVacant h f)
   next_vacant None is = tt
   next_vacant (Some f) is = vacant_from c h free hand f _ k.booked (front_is (in_turn hand free) f (sym (next_is c h free hand k.booked) ∙ sym is))
 
   -- where no frame is next, each one is the home of the page that it had last
-  pub all_used : (o : Option ℕ) → o ≡ next_frame (book c h) → o ≡ None → (f : ℕ) → f < c.frames → (p : PageId) × (home h p ≡ Some f)
+  pub all_used : (o : Option ℕ) → o ≡ frame_in_turn (book c h) → o ≡ None → (f : ℕ) → f < c.frames → (p : PageId) × (home h p ≡ Some f)
   all_used o is none f below =
       let turn = front_none (in_turn hand free) (sym (next_is c h free hand k.booked) ∙ sym is ∙ none) in
       (page_in tenants f, k.used f below (subst (λ (l : List ℕ). Absent f l) (sym turn) tt))

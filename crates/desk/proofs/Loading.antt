@@ -8,8 +8,8 @@ use Rattle.page_ids.specs.Layout.{IsPage}
 use Rattle.page_ids.specs.declared.config.Config.{Config}
 use Rattle.page_ids.specs.declared.ids.PageId.{PageId}
 use Rattle.page_ids.specs.declared.frame_word.Word.{Word}
-use Rattle.page_disk.specs.Disks.{pages_in, IsInside}
-use Rattle.trail.specs.Places.{mark}
+use Rattle.page_disk.specs.Disks.{DiskSeen, pages_in, IsInside}
+use Rattle.trail.specs.Trails.{mark}
 use Rattle.trail.specs.declared.event.Call.{Call}
 use Rattle.trail.specs.declared.event.Cause.{Cause}
 use Rattle.trail.specs.declared.event.Entry.{Entry}
@@ -68,19 +68,19 @@ value_published o s held b image content is shared based = subst (λ (i : Option
     go None true shared = (base_is s.base o.base (shared refl) based, refl)
     go None false shared = refl
 
-module _ {D : Type 0} (tells : D → Bool) (told : D → PageId → Option (List ℕ)) (spaces : D → ℕ → Option ℕ) (o : Opened) where
+module _ {D : Type 0} (seen : D → DiskSeen) (o : Opened) where
   abbrev Stands : State D → FramesSeen → Type 0
-  Stands desk s = IsBehind tells told spaces o desk s
+  Stands desk s = IsBehind seen o desk s
 
   -- one entry was appended, and the frames are known
   pub behind_on : (old new : State D) (by : Caller) (k : Kind) (t u : FramesSeen) → IsAppended old new by k → new.disk ≡ old.disk → t ≡ u
       → Stands (made old.config old.instance (next_entry old by k ∷ old.history) old.disk) u → Stands new t
-  behind_on old new by k t u a disk seen b = subst (λ (x : State D). Stands x t) (sym (appended_is old new by k a disk))
-      (subst (λ (x : FramesSeen). Stands (made old.config old.instance (next_entry old by k ∷ old.history) old.disk) x) (sym seen) b)
+  behind_on old new by k t u a disk shown b = subst (λ (x : State D). Stands x t) (sym (appended_is old new by k a disk))
+      (subst (λ (x : FramesSeen). Stands (made old.config old.instance (next_entry old by k ∷ old.history) old.disk) x) (sym shown) b)
 
   -- an image was laid into a frame that is no page's home
   pub behind_laid : (desk : State D) (s : FramesSeen) (f : ℕ) (row : Row) → IsVacant desk.history f → Stands desk s → Stands desk (with_row s f row)
-  behind_laid desk s f row vacant b = behind_seen tells told spaces o desk s (with_row s f row) refl
+  behind_laid desk s f row vacant b = behind_seen seen o desk s (with_row s f row) refl
       (λ p g here. ap (λ (r : Row). r.image) (row_else s.rows f g row (λ e. vacant p (here ∙ ap (λ (k : ℕ). Some k) e)))) b
 
   pub behind_refused : (c : Config) (n : ℕ) (h : List Entry) (d : D) (s : FramesSeen) (by : Caller) (asked : Call) (why : Cause)
@@ -88,29 +88,29 @@ module _ {D : Type 0} (tells : D → Bool) (told : D → PageId → Option (List
       → Stands (made c n (entry_behind c.first h by (kind.Refused asked why) ∷ h) d) (appended s (entry_behind c.first h by (kind.Refused asked why)))
   behind_refused c n h d s by asked why b =
       let e = entry_behind c.first h by (kind.Refused asked why) in
-      behind_seen tells told spaces o (made c n (e ∷ h) d) s (appended s e) refl (λ p f here. refl)
-      (behind_still tells told spaces o c n h d e s (refused_still asked why) b)
+      behind_seen seen o (made c n (e ∷ h) d) s (appended s e) refl (λ p f here. refl)
+      (behind_still seen o c n h d e s (refused_still asked why) b)
 
   pub behind_fixed : (c : Config) (n : ℕ) (h : List Entry) (d : D) (s : FramesSeen) (by : Caller) (p : PageId) (f clock now : ℕ) (w : Word)
       → Stands (made c n h d) s
       → Stands (made c n (entry_behind c.first h by (kind.Fix p f clock now) ∷ h) d) (appended (visiting s f w) (entry_behind c.first h by (kind.Fix p f clock now)))
   behind_fixed c n h d s by p f clock now w b =
       let e = entry_behind c.first h by (kind.Fix p f clock now) in
-      behind_seen tells told spaces o (made c n (e ∷ h) d) s (appended (visiting s f w) e) refl (λ q g here. image_held s.rows f g)
-      (behind_still tells told spaces o c n h d e s (fix_still p f clock now) b)
+      behind_seen seen o (made c n (e ∷ h) d) s (appended (visiting s f w) e) refl (λ q g here. image_held s.rows f g)
+      (behind_still seen o c n h d e s (fix_still p f clock now) b)
 
   -- a clean page was read into a frame, whose image is then its value
   pub behind_loaded : (c : Config) (n : ℕ) (h : List Entry) (d : D) (s : FramesSeen) (by : Caller) (p : PageId) (f : ℕ) (content : Content)
-      → f < length s.rows → IsVacant h f → is_dirty h p ≡ false → IsInside (spaces d) p → (row_at s f).image ≡ Some (Some content)
-      → IfSome (told d p) (λ bytes. IsPage p bytes content) → ((row_at s f).held ≡ None → IsSome s.base) → IsBased o s
+      → f < length s.rows → IsVacant h f → is_dirty h p ≡ false → IsInside (seen d).spaces p → (row_at s f).image ≡ Some (Some content)
+      → IfSome ((seen d).told p) (λ bytes. IsPage p bytes content) → ((row_at s f).held ≡ None → IsSome s.base) → IsBased o s
       → Stands (made c n h d) s
       → Stands (made c n (entry_behind c.first h by (kind.Load p f) ∷ h) d) (loaded s (entry_behind c.first h by (kind.Load p f)) f p (mark c.first h + 1))
   behind_loaded c n h d s by p f content inside vacant clean within image read shared based b =
       let e = entry_behind c.first h by (kind.Load p f) in
       let row = published_row (row_at s f) p (mark c.first h + 1) in
       let t = loaded s e f p (mark c.first h + 1) in
-      behind_load tells told spaces o c n h d s t (mark c.first h + 1) by.pass by.number p f content refl
+      behind_load seen o c n h d s t (mark c.first h + 1) by.pass by.number p f content refl
       (λ g other. ap (λ (r : Row). r.image) (row_else s.rows f g row other))
       (subst (λ (r : Row). IsValueIn o t r.image (Some content)) (sym (row_here s.rows f row inside))
       (value_published o t (row_at s f).held (true && not (row_at s f).latched) (row_at s f).image content image shared based))
-      vacant (read_value tells told spaces o (made c n h d) s p content b (inside_below (spaces d) p within) clean read) b
+      vacant (read_value seen o (made c n h d) s p content b (inside_below (seen d).spaces p within) clean read) b

@@ -10,7 +10,8 @@ use Rattle.page_ids.specs.Size.{page_bytes}
 use Rattle.page_ids.specs.declared.config.Config.{Config}
 use Rattle.page_ids.specs.declared.ids.PageId.{PageId}
 use Rattle.page_ids.specs.declared.frame_word.Word.{Word}
-use Rattle.trail.specs.Places.{mark}
+use Rattle.page_disk.specs.Disks.{DiskSeen}
+use Rattle.trail.specs.Trails.{mark}
 use Rattle.trail.specs.declared.event.Dirty.{Dirty}
 use Rattle.trail.specs.declared.event.Entry.{Entry}
 use Rattle.trail.specs.declared.event.Kind.TheVariants as kind
@@ -100,12 +101,12 @@ fix_with s t desk by p f row is may = subst (λ (x : FramesSeen). MayFix x desk 
 pub blank_fits : (size lsn : ℕ) → length (blank_at size lsn).bytes ≡ size
 blank_fits size lsn = length-replicate size 0
 
-module _ {D : Type 0} (tells : D → Bool) (told : D → PageId → Option (List ℕ)) (spaces : D → ℕ → Option ℕ) where
+module _ {D : Type 0} (seen : D → DiskSeen) where
   -- the page's value is blank from then on, and so is its image
   pub behind_made : (o : Opened) (c : Config) (n : ℕ) (h : List Entry) (d : D) (s : FramesSeen) (by : Caller) (p : PageId) (f start end now : ℕ) (w : Word)
       → f < length s.rows → IsVacant h f → (row_at s f).image ≡ Some (Some (blank_at (page_bytes c.page) end)) → ((row_at s f).held ≡ None → IsSome s.base) → IsBased o s
-      → IsBehind tells told spaces o (made c n h d) s
-      → IsBehind tells told spaces o (made c n (entry_behind c.first h by (kind.Create p f start end now) ∷ h) d)
+      → IsBehind seen o (made c n h d) s
+      → IsBehind seen o (made c n (entry_behind c.first h by (kind.Create p f start end now) ∷ h) d)
       (finished s (entry_behind c.first h by (kind.Create p f start end now)) f p (mark c.first h + 1) w)
   behind_made o c n h d s by p f start end now w inside vacant image shared based b = record {
     size = b.size;
@@ -151,8 +152,8 @@ module _ {D : Type 0} (tells : D → Bool) (told : D → PageId → Option (List
   -- a page that had no home was made in a frame that was none, where it lay blank
   pub tied_made : (c : Config) (n : ℕ) (h : List Entry) (d : D) (s : FramesSeen) (by : Caller) (p : PageId) (f start end now : ℕ) (w : Word)
       → f < c.frames → IsVacant h f → home h p ≡ None → IsOwn s (made c n h d) p
-      → (row_at s f).image ≡ Some (Some (blank_at (page_bytes c.page) end)) → AreTied tells told spaces s (made c n h d)
-      → AreTied tells told spaces (finished s (entry_behind c.first h by (kind.Create p f start end now)) f p (mark c.first h + 1) w)
+      → (row_at s f).image ≡ Some (Some (blank_at (page_bytes c.page) end)) → AreTied seen s (made c n h d)
+      → AreTied seen (finished s (entry_behind c.first h by (kind.Create p f start end now)) f p (mark c.first h + 1) w)
       (made c n (entry_behind c.first h by (kind.Create p f start end now) ∷ h) d)
   tied_made c n h d s by p f start end now w below vacant absent ours image t =
       let e = entry_behind c.first h by (kind.Create p f start end now) in
@@ -161,7 +162,7 @@ module _ {D : Type 0} (tells : D → Bool) (told : D → PageId → Option (List
       let shown_row = published_row (row_at s f) p place in
       let row = held_row shown_row in
       let size = page_bytes c.page in
-      let inside : f < length s.rows = below_rows tells told spaces s (made c n h d) f t below in
+      let inside : f < length s.rows = below_rows seen s (made c n h d) f t below in
       let named : IsSome s.history × IsSome s.base → IsSome (option_map (extended e) s.history) × IsSome s.base = λ x. (some_map s.history (extended e) x.0, x.1) in
       let alike : (g : ℕ) (r : Row) → IsTied size c.frames (first ∷ h) r g → IsTied size c.frames (e ∷ h) r g = λ g r x. row_alike size c.frames (first ∷ h) (e ∷ h) r g (λ q. refl) refl x in
       record {
@@ -173,19 +174,19 @@ module _ {D : Type 0} (tells : D → Bool) (told : D → PageId → Option (List
         stamped = λ q g x here dirt. stamped inside q g x (same_page p q) refl here dirt;
         unvisited = t.unvisited;
         none_owed = refl;
-        history = told_on tells told spaces s c n h e t.history;
+        history = told_on seen s c n h e t.history;
         known = each_row (λ g r. r.image ≡ Some None → IsSome (option_map (extended e) s.history) × IsSome s.base) s.rows f row
             (λ is. named (t.shared f inside (reached_none (row_at s f).held (true && not (row_at s f).latched) (row_at s f).image (blank_at size end) image is)))
             (λ g other here is. named (t.known g here is));
         shared = each_row (λ g r. r.held ≡ None → IsSome (option_map (extended e) s.history) × IsSome s.base) s.rows f row
             (λ is. named (t.shared f inside (held_none (row_at s f).held is))) (λ g other here is. named (t.shared g here is));
         own = λ is q g here. own (some_mapped s.history (extended e) is) q g (same_page p q) refl here;
-        valued = told_step s.base (λ base. (o : Opened) × (o.base ≡ base) × IsBehind tells told spaces o (made c n h d) s)
-            (λ base. (o : Opened) × (o.base ≡ base) × IsBehind tells told spaces o (made c n (e ∷ h) d) (finished s e f p place w))
+        valued = told_step s.base (λ base. (o : Opened) × (o.base ≡ base) × IsBehind seen o (made c n h d) s)
+            (λ base. (o : Opened) × (o.base ≡ base) × IsBehind seen o (made c n (e ∷ h) d) (finished s e f p place w))
             (λ base is v. (
               v.0,
               v.1,
-              behind_made v.0 c n h d s by p f start end now w inside vacant image (λ none. (t.shared f inside none).1) (based tells told spaces v.0 s base v.1 is) v.2,
+              behind_made v.0 c n h d s by p f start end now w inside vacant image (λ none. (t.shared f inside none).1) (based seen v.0 s base v.1 is) v.2,
             )) t.valued;
       }
     where
@@ -214,12 +215,12 @@ module _ {D : Type 0} (tells : D → Bool) (told : D → PageId → Option (List
 
   -- a page that lies blank in its frame may be published, its entry appended
   pub may_show : (c : Config) (n : ℕ) (h : List Entry) (d : D) (s : FramesSeen) (by : Caller) (p : PageId) (f start end now : ℕ)
-      → f < c.frames → IsVacant h f → mark c.first h + 1 < 2 ^ 48 → (row_at s f).image ≡ Some (Some (blank_at (page_bytes c.page) end)) → AreTied tells told spaces s (made c n h d)
+      → f < c.frames → IsVacant h f → mark c.first h + 1 < 2 ^ 48 → (row_at s f).image ≡ Some (Some (blank_at (page_bytes c.page) end)) → AreTied seen s (made c n h d)
       → MayPublish (appended s (entry_behind c.first h by (kind.Create p f start end now))) f p (mark c.first h + 1)
   may_show c n h d s by p f start end now below vacant early image t =
       let e = entry_behind c.first h by (kind.Create p f start end now) in
       let place = mark c.first h + 1 in
-      let inside : f < length s.rows = below_rows tells told spaces s (made c n h d) f t below in
+      let inside : f < length s.rows = below_rows seen s (made c n h d) f t below in
       record {
         inside = inside;
         away = vacant_away (page_bytes c.page) c.frames h (row_at s f) f (t.rows f inside) vacant;

@@ -15,7 +15,8 @@ use Rattle.page_ids.specs.declared.frame_word.Word.{Word}
 use Rattle.page_ids.specs.declared.ids.PageId.{PageId}
 use Rattle.trail.specs.declared.event.Entry.{Entry}
 use Rattle.trail.specs.History.{home}
-use Rattle.trail.specs.Victim.{IsFixedWord, AreFixedWords, ArePassed, frames_of}
+use Rattle.trail.specs.Words.{IsFixedWord, AreFixedWords, frames_of}
+use Rattle.trail.specs.Victim.{ArePassed}
 use Rattle.frame_words.specs.Conditions.{IsUncovered, FindsUnfixed, AreFound}
 use Rattle.frame_words.specs.Rows.{Row, IsFound, claimed_row}
 use Rattle.frame_words.specs.Seen.{FramesSeen, row_at, with_row, Finds, noted}
@@ -23,6 +24,7 @@ use Rattle.desk.specs.Claimed.{HasLooked, IsTaken, ArePassedBy}
 use Rattle.desk.specs.Steps.{row_in}
 use Rattle.desk.specs.Victims.{AreFoundOn}
 use Rattle.desk.proofs.Dirt.{same_self, no_way}
+use Rattle.trail.proofs.LookUps.{passed_of}
 use Rattle.desk.proofs.Walks.{one, times, contains_cases, contains_more, contains_first}
 
 pub each_some : {A : Type 0} (o : Option A) (P : A → Type 0) → ((x : A) → o ≡ Some x → P x) → IfSome o P
@@ -245,9 +247,18 @@ rising_from (w ∷ v ∷ ws) sorted apart = (above, rising_from (v ∷ ws) less 
     above : w.0 < v.0
     above = go (v.0 == w.0) refl (sorted 0 1 w (omega arith) (omega arith))
 
+-- the words are those of just these pages
+pub record AreJustOf (h : List Entry) (pages : List PageId) (passed : List (ℕ × Word)) : Type 0 where
+  pub each : (q : PageId) → Contains pages q → (f : ℕ) × (home h q ≡ Some f) × Contains (frames_of passed) f
+  pub only : (f : ℕ) → Contains (frames_of passed) f → (q : PageId) × Contains pages q × (home h q ≡ Some f)
+  pub fixed : AreFixedWords h passed
+
+pub just_passed : (h : List Entry) (pages : List PageId) (passed : List (ℕ × Word)) → AreJustOf h pages passed → ArePassed h pages passed
+just_passed h pages passed are = passed_of h pages passed are.each are.only are.fixed
+
 -- what holds of the words in order of frame
 pub record AreInOrder (h : List Entry) (rows : List Row) (found : Option (List (ℕ × Word))) (pages : List PageId) (words : List (ℕ × Word)) : Type 0 where
-  pub passed_are : ArePassed h pages words
+  pub passed_are : AreJustOf h pages words
   pub seen : AreFoundOn rows words
   pub noted : IfSome found (λ now. AreFound now words)
   pub rising : AreRising words
@@ -280,7 +291,7 @@ once_in h (q ∷ qs) (x ∷ xs) homes are f = go (x.0 == f) refl (once_in h qs x
         omega (arith, less, count, now)
 
 -- words in the order of the search
-pub passed_by_are : (h : List Entry) (rows : List Row) (found : Option (List (ℕ × Word))) (pages : List PageId) (passed : List (ℕ × Word)) → ArePassedBy h rows found pages passed → ArePassed h pages passed
+pub passed_by_are : (h : List Entry) (rows : List Row) (found : Option (List (ℕ × Word))) (pages : List PageId) (passed : List (ℕ × Word)) → ArePassedBy h rows found pages passed → AreJustOf h pages passed
 passed_by_are h rows found pages passed are = record { each = λ q here. each_passed h pages passed are.homes q here; only = λ f here. only_passed h pages passed are.homes f here; fixed = are.fixed }
 
 pub in_order_are : (h : List Entry) (rows : List Row) (found : Option (List (ℕ × Word))) (pages : List PageId) (passed words : List (ℕ × Word))

@@ -10,8 +10,8 @@ use Rattle.page_ids.specs.Size.{page_bytes}
 use Rattle.page_ids.specs.declared.config.Config.{Config}
 use Rattle.page_ids.specs.declared.ids.PageId.{PageId}
 use Rattle.page_ids.specs.declared.frame_word.Word.{Word}
-use Rattle.page_disk.specs.Disks.{IsInside, IsSameDisk}
-use Rattle.trail.specs.Places.{mark}
+use Rattle.page_disk.specs.Disks.{DiskSeen, IsInside, IsSameDisk}
+use Rattle.trail.specs.Trails.{mark}
 use Rattle.trail.specs.declared.event.Call.{Call}
 use Rattle.trail.specs.declared.event.Cause.{Cause}
 use Rattle.trail.specs.declared.event.Dirty.{Dirty}
@@ -122,26 +122,26 @@ reached_none (Some n) b image c is e = let bad : Some (Some c) ≡ Some None = s
 clean_none : (o : Option Dirty) (d : Dirty) → is_some o ≡ false → o ≡ Some d → ⊥
 clean_none o d clean is = no_way (sym (ap is_some is) ∙ clean)
 
-module _ {D : Type 0} (tells : D → Bool) (told : D → PageId → Option (List ℕ)) (spaces : D → ℕ → Option ℕ) where
+module _ {D : Type 0} (seen : D → DiskSeen) where
   abbrev Tied : FramesSeen → State D → Type 0
-  Tied s desk = AreTied tells told spaces s desk
+  Tied s desk = AreTied seen s desk
 
   abbrev Valued : FramesSeen → State D → (PageId → Option Content) → Type 0
-  Valued s desk base = (o : Opened) × (o.base ≡ base) × IsBehind tells told spaces o desk s
+  Valued s desk base = (o : Opened) × (o.base ≡ base) × IsBehind seen o desk s
 
   -- one entry was appended, and the frames are known
   pub tied_on : (old new : State D) (by : Caller) (k : Kind) (t u : FramesSeen) → IsAppended old new by k → new.disk ≡ old.disk → t ≡ u
       → Tied u (made old.config old.instance (next_entry old by k ∷ old.history) old.disk) → Tied t new
-  tied_on old new by k t u a disk seen given = subst (λ (x : State D). Tied t x) (sym (appended_is old new by k a disk))
-      (subst (λ (x : FramesSeen). Tied x (made old.config old.instance (next_entry old by k ∷ old.history) old.disk)) (sym seen) given)
+  tied_on old new by k t u a disk shown given = subst (λ (x : State D). Tied t x) (sym (appended_is old new by k a disk))
+      (subst (λ (x : FramesSeen). Tied x (made old.config old.instance (next_entry old by k ∷ old.history) old.disk)) (sym shown) given)
 
   pub based : (o : Opened) (s : FramesSeen) (base : PageId → Option Content) → o.base ≡ base → s.base ≡ Some base → IsBased o s
   based o s base is told = subst (λ (b : Option (PageId → Option Content)). IfSome b (λ (x : PageId → Option Content). x ≡ o.base)) (sym told) (sym is)
 
   -- the disk is as before
-  pub tied_same : (size faults : D → ℕ) (c : Config) (n : ℕ) (h : List Entry) (d e : D) (s : FramesSeen) → IsSameDisk size tells told spaces faults d e
+  pub tied_same : (c : Config) (n : ℕ) (h : List Entry) (d e : D) (s : FramesSeen) → IsSameDisk (seen d) (seen e)
       → Tied s (made c n h d) → Tied s (made c n h e)
-  tied_same size faults c n h d e s same t = record {
+  tied_same c n h d e s same t = record {
     count = t.count;
     whole = t.whole;
     rows = t.rows;
@@ -153,7 +153,7 @@ module _ {D : Type 0} (tells : D → Bool) (told : D → PageId → Option (List
     shared = t.shared;
     own = t.own;
     valued = told_step s.base (Valued s (made c n h d)) (Valued s (made c n h e))
-        (λ base is v. (v.0, v.1, behind_same tells told spaces v.0 size faults c n h d e s same v.2)) t.valued;
+        (λ base is v. (v.0, v.1, behind_same seen v.0 c n h d e s same v.2)) t.valued;
   }
 
   -- a frame of the chunk
@@ -182,7 +182,7 @@ module _ {D : Type 0} (tells : D → Bool) (told : D → PageId → Option (List
         shared = each_row (λ g r. r.held ≡ None → IsSome s.history × IsSome s.base) s.rows f row (t.shared f inside) (λ g other here. t.shared g here);
         own = t.own;
         valued = told_step s.base (Valued s desk) (Valued (with_row s f row) desk)
-            (λ base is v. (v.0, v.1, behind_laid tells told spaces v.0 desk s f row vacant v.2)) t.valued;
+            (λ base is v. (v.0, v.1, behind_laid seen v.0 desk s f row vacant v.2)) t.valued;
       }
 
   pub told_on : (s : FramesSeen) (c : Config) (n : ℕ) (h : List Entry) (e : Entry) → IfSome s.history (λ x. x ≡ history_of c n h)
@@ -206,7 +206,7 @@ module _ {D : Type 0} (tells : D → Bool) (told : D → PageId → Option (List
         shared = λ f below is. (some_map s.history (extended e) (t.shared f below is).0, (t.shared f below is).1);
         own = λ is. t.own (some_mapped s.history (extended e) is);
         valued = told_step s.base (Valued s (made c n h d)) (Valued (appended s e) (made c n (e ∷ h) d))
-            (λ base is v. (v.0, v.1, behind_refused tells told spaces v.0 c n h d s by asked why v.2)) t.valued;
+            (λ base is v. (v.0, v.1, behind_refused seen v.0 c n h d s by asked why v.2)) t.valued;
       }
 
   -- a fix was granted
@@ -233,13 +233,13 @@ module _ {D : Type 0} (tells : D → Bool) (told : D → PageId → Option (List
             (λ is. named (t.shared f inside (held_none (row_at s f).held is))) (λ g other here is. named (t.shared g here is));
         own = λ is. t.own (some_mapped s.history (extended e) is);
         valued = told_step s.base (Valued s (made c n h d)) (Valued (appended (visiting s f w) e) (made c n (e ∷ h) d))
-            (λ base is v. (v.0, v.1, behind_fixed tells told spaces v.0 c n h d s by p f clock now w v.2)) t.valued;
+            (λ base is v. (v.0, v.1, behind_fixed seen v.0 c n h d s by p f clock now w v.2)) t.valued;
       }
 
   -- a clean page that had no home was read in
   pub tied_loaded : (c : Config) (n : ℕ) (h : List Entry) (d : D) (s : FramesSeen) (by : Caller) (p : PageId) (f : ℕ) (content : Content)
-      → f < c.frames → IsVacant h f → home h p ≡ None → is_dirty h p ≡ false → IsInside (spaces d) p → IsOwn s (made c n h d) p
-      → (row_at s f).image ≡ Some (Some content) → IfSome (told d p) (λ bytes. IsPage p bytes content) → Tied s (made c n h d)
+      → f < c.frames → IsVacant h f → home h p ≡ None → is_dirty h p ≡ false → IsInside (seen d).spaces p → IsOwn s (made c n h d) p
+      → (row_at s f).image ≡ Some (Some content) → IfSome ((seen d).told p) (λ bytes. IsPage p bytes content) → Tied s (made c n h d)
       → Tied (loaded s (entry_behind c.first h by (kind.Load p f)) f p (mark c.first h + 1)) (made c n (entry_behind c.first h by (kind.Load p f) ∷ h) d)
   tied_loaded c n h d s by p f content below vacant absent clean within ours image read t =
       let e = entry_behind c.first h by (kind.Load p f) in
@@ -268,7 +268,7 @@ module _ {D : Type 0} (tells : D → Bool) (told : D → PageId → Option (List
             (λ base is v. (
               v.0,
               v.1,
-              behind_loaded tells told spaces v.0 c n h d s by p f content inside vacant clean within image read
+              behind_loaded seen v.0 c n h d s by p f content inside vacant clean within image read
                   (λ none. (t.shared f inside none).1) (based v.0 s base v.1 is) v.2,
             )) t.valued;
       }
@@ -285,8 +285,8 @@ module _ {D : Type 0} (tells : D → Bool) (told : D → PageId → Option (List
 
   -- a page that was loaded may be published
   pub may_publish : (c : Config) (n : ℕ) (h : List Entry) (d : D) (s : FramesSeen) (by : Caller) (p : PageId) (f : ℕ) (content : Content)
-      → f < c.frames → IsVacant h f → is_dirty h p ≡ false → IsInside (spaces d) p → mark c.first h + 1 < 2 ^ 48
-      → (row_at s f).image ≡ Some (Some content) → IfSome (told d p) (λ bytes. IsPage p bytes content) → Tied s (made c n h d)
+      → f < c.frames → IsVacant h f → is_dirty h p ≡ false → IsInside (seen d).spaces p → mark c.first h + 1 < 2 ^ 48
+      → (row_at s f).image ≡ Some (Some content) → IfSome ((seen d).told p) (λ bytes. IsPage p bytes content) → Tied s (made c n h d)
       → MayPublish (appended s (entry_behind c.first h by (kind.Load p f))) f p (mark c.first h + 1)
   may_publish c n h d s by p f content below vacant clean within early image read t =
       let e = entry_behind c.first h by (kind.Load p f) in
@@ -310,4 +310,4 @@ module _ {D : Type 0} (tells : D → Bool) (told : D → PageId → Option (List
           ap (λ (y : History). value (page_bytes y.config.page) base y.entries p) is
           ∙ ap (λ (m : ℕ). value m base h p) v.2.size
           ∙ ap (λ (b : PageId → Option Content). value v.0.size b h p) (sym v.1)
-          ∙ read_value tells told spaces v.0 (made c n h d) s p content v.2 (inside_below (spaces d) p within) clean read
+          ∙ read_value seen v.0 (made c n h d) s p content v.2 (inside_below (seen d).spaces p within) clean read

@@ -7,7 +7,7 @@ use Rattle.page_ids.specs.Same.{same_page}
 use Rattle.page_ids.specs.declared.config.Config.{Config}
 use Rattle.page_ids.specs.declared.frame_word.Word.{Word}
 use Rattle.page_ids.specs.declared.ids.PageId.{PageId}
-use Rattle.page_disk.specs.Disks.{Fades, IsOtherwiseSame}
+use Rattle.page_disk.specs.Disks.{DiskSeen, Fades, IsOtherwiseSame}
 use Rattle.trail.specs.declared.event.Dirty.{Dirty}
 use Rattle.trail.specs.declared.event.Entry.{Entry}
 use Rattle.trail.specs.declared.event.Kind.{Kind}
@@ -93,9 +93,9 @@ pub newest_lsn : (size : ℕ) (base : PageId → Option Content) (h : List Entry
 newest_lsn size base [] p = λ c d e there. let none : None ≡ Some d = there in absurd (cc)
 newest_lsn size base (e ∷ h) p = newest_step size e.kind p (value size base h p) (dirty h) (newest_lsn size base h p)
 
-module _ {D : Type 0} (tells : D → Bool) (told : D → PageId → Option (List ℕ)) (spaces : D → ℕ → Option ℕ) (o : Opened) where
+module _ {D : Type 0} (seen : D → DiskSeen) (o : Opened) where
   abbrev Stands : State D → FramesSeen → Type 0
-  Stands desk s = IsBehind tells told spaces o desk s
+  Stands desk s = IsBehind seen o desk s
 
   -- frames are known by their rows and the base
   pub behind_frames : (desk : State D) (s t : FramesSeen) → t.rows ≡ s.rows → t.base ≡ s.base → Stands desk s → Stands desk t
@@ -134,7 +134,7 @@ module _ {D : Type 0} (tells : D → Bool) (told : D → PageId → Option (List
         let V : Option Content → Type 0 = λ v. IsValueIn o s (row_at s f).image v in
         subst V (sym (still.values o.size p (value o.size o.base h p))) (b.values p f (sym (still.homes p (home h p)) ∙ at));
     written = λ p is.
-        let P : Option Content → Type 0 = λ v. IfSome (told d p) (λ bytes. IfSome v (λ c. IsPage p bytes c)) in
+        let P : Option Content → Type 0 = λ v. IfSome ((seen d).told p) (λ bytes. IfSome v (λ c. IsPage p bytes c)) in
         subst P (sym (still.saves p (value o.size o.base h p) (saved o.size o.base h p))) (b.written p (sym (still.writes p (is_written h p)) ∙ is));
     unwritten = λ p is. b.unwritten p (sym (still.writes p (is_written h p)) ∙ is);
     clean = λ p is was. b.clean p (ap (λ ds. is_some (dirt_of ds p)) (sym (still.dirts (dirty h))) ∙ is) was;
@@ -161,11 +161,11 @@ module _ {D : Type 0} (tells : D → Bool) (told : D → PageId → Option (List
   }
 
   -- a page's image was written
-  pub behind_wrote : (size faults : D → ℕ) (c : Config) (n : ℕ) (h : List Entry) (s : FramesSeen) (d e : D) (place caller number : ℕ) (p : PageId) (lsn upto : ℕ) (content : Content) (bytes : List ℕ)
-      → value o.size o.base h p ≡ Some content → IsPage p bytes content → IsOtherwiseSame size tells told spaces faults p d e
-      → (tells d ≡ true → told e p ≡ Some bytes) → (tells e ≡ false → told e p ≡ None)
+  pub behind_wrote : (c : Config) (n : ℕ) (h : List Entry) (s : FramesSeen) (d e : D) (place caller number : ℕ) (p : PageId) (lsn upto : ℕ) (content : Content) (bytes : List ℕ)
+      → value o.size o.base h p ≡ Some content → IsPage p bytes content → IsOtherwiseSame p (seen d) (seen e)
+      → ((seen d).tells ≡ true → (seen e).told p ≡ Some bytes) → ((seen e).tells ≡ false → (seen e).told p ≡ None)
       → Stands (desk_of c n h d) s → Stands (desk_of c n (entry_at place caller number (kind.Write p lsn upto) ∷ h) e) s
-  behind_wrote size faults c n h s d e place caller number p lsn upto content bytes is_value page others ok silent b = record {
+  behind_wrote c n h s d e place caller number p lsn upto content bytes is_value page others ok silent b = record {
     size = b.size;
     pages = λ space. b.pages space ∙ ap (λ (x : Option ℕ). unwrap_or x 0) (sym (others.spaces_are space));
     based = b.based;
@@ -177,34 +177,34 @@ module _ {D : Type 0} (tells : D → Bool) (told : D → PageId → Option (List
     valued = λ q is. valued q (same_page p q) refl is;
   }
     where
-      now_page : (t : Bool) → tells d ≡ t → IfSome (told e p) (λ x. IfSome (value o.size o.base h p) (λ y. IsPage p x y))
+      now_page : (t : Bool) → (seen d).tells ≡ t → IfSome ((seen e).told p) (λ x. IfSome (value o.size o.base h p) (λ y. IsPage p x y))
       now_page true is =
           let P : Option (List ℕ) → Type 0 = λ x. IfSome x (λ x. IfSome (value o.size o.base h p) (λ y. IsPage p x y)) in
           let Q : Option Content → Type 0 = λ v. IfSome v (λ y. IsPage p bytes y) in
           subst P (sym (ok is)) (subst Q (sym is_value) page)
       now_page false is =
           let P : Option (List ℕ) → Type 0 = λ x. IfSome x (λ x. IfSome (value o.size o.base h p) (λ y. IsPage p x y)) in
-          let none : told e p ≡ None = silent (others.telling ∙ is) in
+          let none : (seen e).told p ≡ None = silent (others.telling ∙ is) in
           subst P (sym none) tt
 
       written : (q : PageId) (t : Bool) → same_page p q ≡ t → cond t true (is_written h q) ≡ true
-          → IfSome (told e q) (λ x. IfSome (cond t (value o.size o.base h q) (saved o.size o.base h q)) (λ y. IsPage q x y))
+          → IfSome ((seen e).told q) (λ x. IfSome (cond t (value o.size o.base h q) (saved o.size o.base h q)) (λ y. IsPage q x y))
       written q true same is =
-          let P : PageId → Type 0 = λ r. IfSome (told e r) (λ x. IfSome (value o.size o.base h r) (λ y. IsPage r x y)) in
-          subst P (same_is p q same) (now_page (tells d) refl)
+          let P : PageId → Type 0 = λ r. IfSome ((seen e).told r) (λ x. IfSome (value o.size o.base h r) (λ y. IsPage r x y)) in
+          subst P (same_is p q same) (now_page (seen d).tells refl)
       written q false other is =
           let P : Option (List ℕ) → Type 0 = λ t. IfSome t (λ x. IfSome (saved o.size o.base h q) (λ y. IsPage q x y)) in
           subst P (sym (others.bytes q other)) (b.written q is)
 
-      unwritten : (q : PageId) (t : Bool) → same_page p q ≡ t → cond t true (is_written h q) ≡ false → Fades (o.told q) (told e q)
+      unwritten : (q : PageId) (t : Bool) → same_page p q ≡ t → cond t true (is_written h q) ≡ false → Fades (o.told q) ((seen e).told q)
       unwritten q true same is = absurd (no_way is)
       unwritten q false other is =
           let P : Option (List ℕ) → Type 0 = λ t. Fades (o.told q) t in
           subst P (sym (others.bytes q other)) (b.unwritten q is)
 
-      clean : (q : PageId) (t : Bool) → same_page p q ≡ t → is_some (dirt_of (cleaned p (dirty h)) q) ≡ false → IsSome (o.told q) → IsSome (told e q)
+      clean : (q : PageId) (t : Bool) → same_page p q ≡ t → is_some (dirt_of (cleaned p (dirty h)) q) ≡ false → IsSome (o.told q) → IsSome ((seen e).told q)
       clean q true same is was =
-          let P : PageId → Type 0 = λ r. IsSome (told e r) in
+          let P : PageId → Type 0 = λ r. IsSome ((seen e).told r) in
           subst P (same_is p q same) (ap is_some (ok (b.telling q was)))
       clean q false other is was = ap is_some (others.bytes q other) ∙ b.clean q (sym (clean_other p q (dirty h) other) ∙ is) was
 
@@ -213,17 +213,17 @@ module _ {D : Type 0} (tells : D → Bool) (told : D → PageId → Option (List
       valued q false other is = b.valued q is
 
   -- a write failed: the page, which stays dirty, is told as before or not at all
-  pub behind_unwritten : (size faults : D → ℕ) (c : Config) (n : ℕ) (h : List Entry) (s : FramesSeen) (d e : D) (p : PageId) → is_dirty h p ≡ true
-      → IsOtherwiseSame size tells told spaces faults p d e → Fades (told d p) (told e p)
+  pub behind_unwritten : (c : Config) (n : ℕ) (h : List Entry) (s : FramesSeen) (d e : D) (p : PageId) → is_dirty h p ≡ true
+      → IsOtherwiseSame p (seen d) (seen e) → Fades ((seen d).told p) ((seen e).told p)
       → Stands (desk_of c n h d) s → Stands (desk_of c n h e) s
-  behind_unwritten size faults c n h s d e p dirty_is others fades b = record {
+  behind_unwritten c n h s d e p dirty_is others fades b = record {
     size = b.size;
     pages = λ space. b.pages space ∙ ap (λ (x : Option ℕ). unwrap_or x 0) (sym (others.spaces_are space));
     based = b.based;
     telling = λ q is. others.telling ∙ b.telling q is;
     values = b.values;
-    written = λ q is. fades_keeps (told d q) (told e q) (λ x. IfSome (saved o.size o.base h q) (λ y. IsPage q x y)) (all q (same_page p q) refl) (b.written q is);
-    unwritten = λ q is. fades_keeps (told d q) (told e q) (λ x. o.told q ≡ Some x) (all q (same_page p q) refl) (b.unwritten q is);
+    written = λ q is. fades_keeps ((seen d).told q) ((seen e).told q) (λ x. IfSome (saved o.size o.base h q) (λ y. IsPage q x y)) (all q (same_page p q) refl) (b.written q is);
+    unwritten = λ q is. fades_keeps ((seen d).told q) ((seen e).told q) (λ x. o.told q ≡ Some x) (all q (same_page p q) refl) (b.unwritten q is);
     clean = λ q is was. clean q (same_page p q) refl is was;
     valued = b.valued;
   }
@@ -232,14 +232,14 @@ module _ {D : Type 0} (tells : D → Bool) (told : D → PageId → Option (List
       itself None = tt
       itself (Some t) = refl
 
-      all : (q : PageId) (t : Bool) → same_page p q ≡ t → Fades (told d q) (told e q)
+      all : (q : PageId) (t : Bool) → same_page p q ≡ t → Fades ((seen d).told q) ((seen e).told q)
       all q true same =
-          let P : PageId → Type 0 = λ r. Fades (told d r) (told e r) in
+          let P : PageId → Type 0 = λ r. Fades ((seen d).told r) ((seen e).told r) in
           subst P (same_is p q same) fades
       all q false other =
-          let P : Option (List ℕ) → Type 0 = λ t. Fades (told d q) t in
-          subst P (sym (others.bytes q other)) (itself (told d q))
+          let P : Option (List ℕ) → Type 0 = λ t. Fades ((seen d).told q) t in
+          subst P (sym (others.bytes q other)) (itself ((seen d).told q))
 
-      clean : (q : PageId) (t : Bool) → same_page p q ≡ t → is_dirty h q ≡ false → IsSome (o.told q) → IsSome (told e q)
+      clean : (q : PageId) (t : Bool) → same_page p q ≡ t → is_dirty h q ≡ false → IsSome (o.told q) → IsSome ((seen e).told q)
       clean q true same is was = absurd (no_way (sym dirty_is ∙ ap (is_dirty h) (same_is p q same) ∙ is))
       clean q false other is was = ap is_some (others.bytes q other) ∙ b.clean q is was

@@ -1,7 +1,8 @@
 -- The LRU list, walked from the tail.
 use mathlib.Core.Bool.{beq}
-use Rattle.std.proofs.Common.{◌≡◌, ◌<◌, ◌≤◌, ◌+◌, ◌++◌, ◌==◌, ◌⊎◌, inl, inr, ℕ, zero, suc, Bool, true, false, not, cond, List, [], ◌∷◌, Option, None, Some, length, refl, ap, ◌∙◌, sym, subst, arith, if◌then◌else◌, eq-eqb}
+use Rattle.std.proofs.Common.{◌≡◌, ◌<◌, ◌≤◌, ◌+◌, ◌++◌, ◌==◌, ◌&&◌, ◌⊎◌, inl, inr, ℕ, zero, suc, Bool, true, false, not, cond, List, [], ◌∷◌, Option, None, Some, length, refl, ap, ◌∙◌, sym, subst, arith, if◌then◌else◌, eq-eqb, nat_eq}
 use Rattle.std.specs.Prelude.{is_some, filter, map, reverse, Contains}
+use Rattle.std.specs.List.{AllByRecursion}
 use Rattle.std.specs.Option.{option_map_or}
 use Rattle.std.proofs.lemmas.Bool.{eqb-true}
 use Rattle.std.proofs.lemmas.List.{reverse-append}
@@ -224,3 +225,20 @@ same_kind false false is = refl
 pub tested : (soiled : Bool) (h : List Entry) (p : PageId) → not (beq (is_dirty h p) soiled) ≡ false → test_of h soiled p ≡ true
 tested true h p is = same_kind (is_dirty h p) true is
 tested false h p is = ap not (same_kind (is_dirty h p) false is)
+
+others_in : (p : PageId) (qs : List PageId) → times p qs ≡ 0 → AllByRecursion (λ q. same_page q p ≡ false) qs
+others_in p [] none = tt
+others_in p (q ∷ qs) none = (cases (same_page q p) (omega (arith, none)), others_in p qs (omega (arith, none)))
+  where
+    cases : (b : Bool) → one b ≤ 0 → b ≡ false
+    cases true le = absurd (omega (arith, le))
+    cases false le = refl
+
+-- the pages in front of one in the walk are others
+pub before_other : (c : Config) (h : List Entry) (p : PageId) (before after : List PageId) → AreOrderly c h → walk c h ≡ before ++ p ∷ after → AllByRecursion (λ q. same_page q p ≡ false) before
+before_other c h p before after orderly split =
+    let all = ap (times p) split in
+    let sum = times-append p before (p ∷ after) in
+    let most = walk_once c h p orderly in
+    let here : one (same_page p p) ≡ 1 = ap one (ap (λ (b : Bool). b && nat_eq p.page p.page) (eq-eqb p.space p.space refl) ∙ eq-eqb p.page p.page refl) in
+    others_in p before (omega (arith, all, sum, most, here))

@@ -1,8 +1,9 @@
 -- What a put does, and what a clean does.
-use Rattle.std.specs.Prelude.{ℕ, zero, suc, List, [], ◌∷◌, ◌≡◌, ◌+◌, ◌-◌, ◌<◌, ◌≤◌, ◌^◌, ◌++◌, ◌⊎◌, Bool, true, Option, Some, length, slice_set, nat_le, if◌then◌else◌, ⊤}
+use Rattle.std.specs.Prelude.{ℕ, zero, suc, List, [], ◌∷◌, ◌≡◌, ◌+◌, ◌-◌, ◌<◌, ◌≤◌, ◌^◌, ◌++◌, ◌⊎◌, Bool, true, Some, length, slice_set, nat_le, if◌then◌else◌, ⊤}
 use Rattle.page_ids.specs.Content.{Content, patched}
 use Rattle.page_ids.specs.Layout.{IsPage}
 use Rattle.page_ids.specs.declared.ids.PageId.{PageId}
+use Rattle.page_disk.specs.Disks.{DiskSeen}
 use Rattle.trail.specs.declared.event.Call.TheVariants as call
 use Rattle.trail.specs.declared.event.Cause.{Cause}
 use Rattle.trail.specs.declared.event.Cause.TheVariants as cause
@@ -10,7 +11,7 @@ use Rattle.trail.specs.declared.event.Dirty.{Dirty}
 use Rattle.trail.specs.declared.event.Kind.{Kind}
 use Rattle.trail.specs.declared.event.Kind.TheVariants as kind
 use Rattle.trail.specs.declared.event.Entry.{Entry}
-use Rattle.trail.specs.Places.{mark}
+use Rattle.trail.specs.Trails.{mark}
 use Rattle.trail.specs.History.{home}
 use Rattle.trail.specs.Dirt.{dirty}
 use Rattle.frame_words.specs.Rows.{Row, Uncovers, unlatched_row}
@@ -27,12 +28,6 @@ use Rattle.desk.specs.declared.calls.CleanErr.{CleanErr}
 use Rattle.desk.specs.declared.calls.CleanErr.TheVariants as unclean
 use Rattle.desk.specs.declared.flush.WriteErr.{WriteErr}
 use Rattle.desk.specs.declared.flush.WriteErr.TheVariants as unwritten
-
--- a range of the body of a page of this size, not empty, behind the header and before the trailer
-pub record IsBody (size at len : ℕ) : Type 0 where
-  pub some : 0 < len
-  pub header : 38 ≤ at
-  pub trailer : at + len ≤ size - 8
 
 -- an image was changed in the frame, which was latched for it
 abbrev pub changed_row : Row → Content → ℕ → Row
@@ -64,10 +59,10 @@ IsPutRefusal old new by p at bytes first last unput.OutOfMemory = new ≡ old
 IsPutRefusal old new by p at bytes first last (unput.LogSpent end) = IsSpentBy old new by p at bytes first last end
 
 -- where the disk tells, the page's bytes are those of the image
-pub record IsImageTold {D : Type 0} (tells : D → Bool) (told : D → PageId → Option (List ℕ)) (p : PageId) (content : Content) (old new : D) : Type 0 where
+pub record IsImageTold (p : PageId) (content : Content) (old new : DiskSeen) : Type 0 where
   pub bytes : List ℕ
   pub page : IsPage p bytes content
-  pub tells_it : tells old ≡ true → told new p ≡ Some bytes
+  pub tells_it : old.tells ≡ true → new.told p ≡ Some bytes
 
 -- the counts of faults of the disk or of the log rose so, within a call in which they went from the first to the second
 abbrev pub IsWriteFault : ℕ → ℕ → ℕ → ℕ → WriteErr → Type 0
@@ -80,13 +75,13 @@ IsForced old new needed (unwritten.RedoFault before after) = needed × (new ≡ 
 IsForced old new needed (unwritten.DiskFault before after) = ⊤
 
 -- what writes leave of a desk and its disk; no count of faults fell
-pub record LeavesDesk {D : Type 0} (size : D → ℕ) (tells : D → Bool) (spaces : D → ℕ → Option ℕ) (faults : D → ℕ) (old new : State D) : Type 0 where
+pub record LeavesDesk {D : Type 0} (seen : D → DiskSeen) (old new : State D) : Type 0 where
   pub config : new.config ≡ old.config
   pub instance : new.instance ≡ old.instance
-  pub sizes : size new.disk ≡ size old.disk
-  pub telling : tells new.disk ≡ tells old.disk
-  pub spaces_are : (space : ℕ) → spaces new.disk space ≡ spaces old.disk space
-  pub later : faults old.disk ≤ faults new.disk
+  pub sizes : (seen new.disk).size ≡ (seen old.disk).size
+  pub telling : (seen new.disk).tells ≡ (seen old.disk).tells
+  pub spaces_are : (space : ℕ) → (seen new.disk).spaces space ≡ (seen old.disk).spaces space
+  pub later : (seen old.disk).faults ≤ (seen new.disk).faults
 
 -- the page that was dirty first was written with its newest LSN, the log durable up to there at least
 pub record IsWriteBack (first : ℕ) (by : Caller) (old new : List Entry) : Type 0 where

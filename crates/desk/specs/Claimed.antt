@@ -6,6 +6,7 @@ use Rattle.page_ids.specs.Size.{page_bytes}
 use Rattle.page_ids.specs.declared.config.Config.{Config}
 use Rattle.page_ids.specs.declared.frame_word.Word.{Word}
 use Rattle.page_ids.specs.declared.ids.PageId.{PageId}
+use Rattle.page_disk.specs.Disks.{DiskSeen}
 use Rattle.redo_mark.specs.Device.{Told}
 use Rattle.redo_mark.specs.Logs as log
 use Rattle.redo_mark.specs.Logs.{IsLater, IsKept}
@@ -13,9 +14,10 @@ use Rattle.trail.specs.declared.event.Cause.{Cause}
 use Rattle.trail.specs.declared.event.Cause.TheVariants as cause
 use Rattle.trail.specs.declared.event.Entry.{Entry}
 use Rattle.trail.specs.History.{home, change}
-use Rattle.trail.specs.Book.{book, next_frame}
+use Rattle.trail.specs.Book.{book, frame_in_turn}
 use Rattle.trail.specs.Dirt.{is_dirty, log_end}
-use Rattle.trail.specs.Victim.{from_the_tail, AreFixedWords}
+use Rattle.trail.specs.Victim.{from_the_tail}
+use Rattle.trail.specs.Words.{AreFixedWords}
 use Rattle.frame_words.specs.Conditions.{IsUncovered, FindsUnfixed, AreFound}
 use Rattle.frame_words.specs.Rows.{Row, claimed_row}
 use Rattle.frame_words.specs.Seen.{FramesSeen, row_at, with_row}
@@ -80,13 +82,13 @@ pub record StopsAt (h : List Entry) (rows : List Row) (found : Option (List (ℕ
   pub passed_are : ArePassedBy h rows found before passed
 
 -- Frames that are tied to a desk but for one: the page's frame is claimed, and no entry says so.
-pub record AreTiedBut {D : Type 0} (tells : D → Bool) (told : D → PageId → Option (List ℕ)) (spaces : D → ℕ → Option ℕ) (s : FramesSeen) (desk : State D) (p : PageId) (f : ℕ) : Type 0 where
+pub record AreTiedBut {D : Type 0} (seen : D → DiskSeen) (s : FramesSeen) (desk : State D) (p : PageId) (f : ℕ) : Type 0 where
   pub count : length s.rows ≡ desk.config.frames * desk.config.max
   pub whole : desk.config.frames ≤ length s.rows
   pub housed : home desk.history p ≡ Some f
   pub alone : (q : PageId) → home desk.history q ≡ Some f → q ≡ p
   pub below : f < desk.config.frames
-  pub none_free : next_frame (book desk.config desk.history) ≡ None
+  pub none_free : frame_in_turn (book desk.config desk.history) ≡ None
   pub no_area : (book desk.config desk.history).area ≡ None
   pub rows : (g : ℕ) → g < length s.rows → (g ≡ f → ⊥) → IsTied (page_bytes desk.config.page) desk.config.frames desk.history (row_at s g) g
   -- the claimed frame keeps its clock, and has its page's image
@@ -103,7 +105,7 @@ pub record AreTiedBut {D : Type 0} (tells : D → Bool) (told : D → PageId →
   pub history : IfSome s.history (λ h. h ≡ record { config = desk.config; instance = desk.instance; entries = desk.history })
   pub known : (g : ℕ) → g < length s.rows → (row_at s g).image ≡ Some None → IsSome s.history × IsSome s.base
   pub own : IsSome s.history → (q : PageId) (g : ℕ) → home desk.history q ≡ Some g → instance_of q desk.config.instances ≡ desk.instance
-  pub valued : IfSome s.base (λ base. (o : Opened) × (o.base ≡ base) × IsBehind tells told spaces o desk s)
+  pub valued : IfSome s.base (λ base. (o : Opened) × (o.base ≡ base) × IsBehind seen o desk s)
 
 -- The log goes on, and has of the new history what it had of the old one.
 pub record KeepsLog {R : Type 0} (told : R → Option Told) (old new : log.State R) (h k : List Entry) : Type 0 where
@@ -125,24 +127,24 @@ refusal_of (unwritten.RedoFault before after) = refusal.RedoFault before after
 refusal_of (unwritten.DiskFault before after) = refusal.DiskFault before after
 
 -- what a desk, its frames and its log are behind a call that had a frame for the page, or had none
-pub record Leaves {D R : Type 0} (size : D → ℕ) (tells : D → Bool) (told : D → PageId → Option (List ℕ)) (spaces : D → ℕ → Option ℕ) (faults : D → ℕ) (logged : R → Option Told)
+pub record Leaves {D R : Type 0} (seen : D → DiskSeen) (logged : R → Option Told)
     (p : PageId) (old new : State D) (s t : FramesSeen) (was is : log.State R) : Type 0 where
   pub absent : home new.history p ≡ None
   -- what is told of the page, as only the victim was written
-  pub page_told : told new.disk p ≡ told old.disk p
+  pub page_told : (seen new.disk).told p ≡ (seen old.disk).told p
   pub count : length new.history ≤ length old.history + 2
-  pub tied : AreTied tells told spaces t new
+  pub tied : AreTied seen t new
   pub settled : AreSettled t.rows
-  pub desk : LeavesDesk size tells spaces faults old new
+  pub desk : LeavesDesk seen old new
   pub log : KeepsLog logged was is old.history new.history
   -- the log was used only where it had to be made durable
   pub covered : (is ≡ was) ⊎ MustCover old s.rows was.seen.durable
-  pub behind : (o : Opened) → IsBehind tells told spaces o old s → IsBehind tells told spaces o new t
+  pub behind : (o : Opened) → IsBehind seen o old s → IsBehind seen o new t
 
 -- the frame that was had is the next one, in which no page is at home
 pub record HasFrame {D : Type 0} (old new : Kept D) (s t : FramesSeen) (by : Caller) (f : ℕ) : Type 0 where
   pub had : IsHad old.state new.state s.rows t.rows by f
-  pub next : next_frame (book new.state.config new.state.history) ≡ Some f
+  pub next : frame_in_turn (book new.state.config new.state.history) ≡ Some f
   pub below : f < new.state.config.frames
   pub vacant : IsVacant new.state.history f
   pub turn : LeavesTurn s t

@@ -1,16 +1,16 @@
 -- What a create does, and why it is refused.
-use Rattle.std.specs.Prelude.{ℕ, Bool, List, ◌≡◌, ◌+◌, ◌<◌, ◌≤◌, ◌^◌, ◌⊎◌, ⊤, Option, None, Some, IfSome, length, replicate, slice_set}
+use Rattle.std.specs.Prelude.{ℕ, List, ◌≡◌, ◌+◌, ◌<◌, ◌≤◌, ◌^◌, ◌⊎◌, ⊤, Option, None, Some, IfSome, length, replicate, slice_set}
 use Rattle.page_ids.specs.Content.{Content}
 use Rattle.page_ids.specs.Size.{page_bytes}
 use Rattle.page_ids.specs.declared.ids.PageId.{PageId}
-use Rattle.page_disk.specs.Disks.{pages_in}
+use Rattle.page_disk.specs.Disks.{DiskSeen, pages_in}
 use Rattle.redo_mark.specs.Device.{Told}
 use Rattle.redo_mark.specs.Logs as log
 use Rattle.trail.specs.declared.event.Call.TheVariants as call
 use Rattle.trail.specs.declared.event.Cause.TheVariants as cause
 use Rattle.trail.specs.declared.event.Kind.TheVariants as kind
-use Rattle.trail.specs.Places.{mark}
-use Rattle.trail.specs.Book.{book, next_frame}
+use Rattle.trail.specs.Trails.{mark}
+use Rattle.trail.specs.Book.{book, frame_in_turn}
 use Rattle.trail.specs.History.{home}
 use Rattle.frame_words.specs.Rows.{Row, laid_row, published_row, held_row}
 use Rattle.frame_words.specs.Seen.{FramesSeen}
@@ -44,7 +44,7 @@ pub record IsMade {D : Type 0} (old new : State D) (rows rows' : List Row) (by :
   pub absent : home old.history p ≡ None
   pub below : g.frame < old.config.frames
   pub fresh : IsVacant old.history g.frame
-  pub frame : next_frame (book old.config old.history) ≡ Some g.frame
+  pub frame : frame_in_turn (book old.config old.history) ≡ Some g.frame
   pub place : g.place ≡ mark old.config.first old.history + 1
   pub clock : g.clock ≡ g.place
   pub entry : IsAppended old new by (kind.Create p g.frame start (start + 21) now)
@@ -80,23 +80,23 @@ pub record IsUncreated {D : Type 0} (old new : State D) (rows rows' : List Row) 
 
 -- Why a create was refused, and what stands then: nothing has changed, or the refusal was appended. The log was durable up to `durable`, its end went from
 -- `first` to `last`, and its count of faults from `was` to `is`.
-abbrev pub IsCreateRefusal : {D : Type 0} → (D → ℕ → Option ℕ) → (D → ℕ) → State D → State D → List Row → List Row → Caller → ℕ → PageId → ℕ → ℕ → ℕ → ℕ → ℕ → ℕ → CreateErr → Type 0
-IsCreateRefusal spaces faults old new rows rows' by held p now durable first last was is refusal.OutOfMemory = (new ≡ old) × (rows' ≡ rows)
-IsCreateRefusal spaces faults old new rows rows' by held p now durable first last was is (refusal.NoSuchPage pages) = IsOutside spaces old new by p (call.Create p now) pages × (rows' ≡ rows)
-IsCreateRefusal spaces faults old new rows rows' by held p now durable first last was is (refusal.HoldFull full) =
-    (p.page < pages_in (spaces old.disk) p.space) × IsHeldFull old new by (call.Create p now) held full × (rows' ≡ rows)
-IsCreateRefusal spaces faults old new rows rows' by held p now durable first last was is (refusal.Resident f) =
-    (p.page < pages_in (spaces old.disk) p.space) × (held < 64) × IsAtHome old new by p now f × (rows' ≡ rows)
-IsCreateRefusal spaces faults old new rows rows' by held p now durable first last was is (refusal.AllFixed seen) =
-    (p.page < pages_in (spaces old.disk) p.space) × (held < 64) × IsUnseated old new rows by p (call.Create p now) seen × (rows' ≡ rows)
-IsCreateRefusal spaces faults old new rows rows' by held p now durable first last was is (refusal.RedoFault before after) =
-    (p.page < pages_in (spaces old.disk) p.space) × (held < 64)
+abbrev pub IsCreateRefusal : {D : Type 0} → (D → DiskSeen) → State D → State D → List Row → List Row → Caller → ℕ → PageId → ℕ → ℕ → ℕ → ℕ → ℕ → ℕ → CreateErr → Type 0
+IsCreateRefusal seen old new rows rows' by held p now durable first last was is refusal.OutOfMemory = (new ≡ old) × (rows' ≡ rows)
+IsCreateRefusal seen old new rows rows' by held p now durable first last was is (refusal.NoSuchPage pages) = IsOutside seen old new by p (call.Create p now) pages × (rows' ≡ rows)
+IsCreateRefusal seen old new rows rows' by held p now durable first last was is (refusal.HoldFull full) =
+    (p.page < pages_in (seen old.disk).spaces p.space) × IsHeldFull old new by (call.Create p now) held full × (rows' ≡ rows)
+IsCreateRefusal seen old new rows rows' by held p now durable first last was is (refusal.Resident f) =
+    (p.page < pages_in (seen old.disk).spaces p.space) × (held < 64) × IsAtHome old new by p now f × (rows' ≡ rows)
+IsCreateRefusal seen old new rows rows' by held p now durable first last was is (refusal.AllFixed words) =
+    (p.page < pages_in (seen old.disk).spaces p.space) × (held < 64) × IsUnseated old new rows by p (call.Create p now) words × (rows' ≡ rows)
+IsCreateRefusal seen old new rows rows' by held p now durable first last was is (refusal.RedoFault before after) =
+    (p.page < pages_in (seen old.disk).spaces p.space) × (held < 64)
     × IsUnwritten old new by p (call.Create p now) was is before after (cause.RedoFault before after) × (rows' ≡ rows) × MustCover old rows durable × (new.disk ≡ old.disk)
-IsCreateRefusal spaces faults old new rows rows' by held p now durable first last was is (refusal.DiskFault before after) =
-    (p.page < pages_in (spaces old.disk) p.space) × (held < 64)
-    × IsUnwritten old new by p (call.Create p now) (faults old.disk) (faults new.disk) before after (cause.DiskFault before after) × (rows' ≡ rows) × MustWrite old rows
-IsCreateRefusal spaces faults old new rows rows' by held p now durable first last was is (refusal.LogSpent end) =
-    (p.page < pages_in (spaces old.disk) p.space) × (held < 64) × IsUncreated old new rows rows' by p now first last end
+IsCreateRefusal seen old new rows rows' by held p now durable first last was is (refusal.DiskFault before after) =
+    (p.page < pages_in (seen old.disk).spaces p.space) × (held < 64)
+    × IsUnwritten old new by p (call.Create p now) (seen old.disk).faults (seen new.disk).faults before after (cause.DiskFault before after) × (rows' ≡ rows) × MustWrite old rows
+IsCreateRefusal seen old new rows rows' by held p now durable first last was is (refusal.LogSpent end) =
+    (p.page < pages_in (seen old.disk).spaces p.space) × (held < 64) × IsUncreated old new rows rows' by p now first last end
 
 -- why a create is refused for which no frame was had
 abbrev pub create_err_of : FrameErr → CreateErr
@@ -111,19 +111,19 @@ IsUnused old new refusal.OutOfMemory = new ≡ old
 IsUnused old new (refusal.NoSuchPage pages) = new ≡ old
 IsUnused old new (refusal.HoldFull held) = new ≡ old
 IsUnused old new (refusal.Resident f) = new ≡ old
-IsUnused old new (refusal.AllFixed seen) = new ≡ old
+IsUnused old new (refusal.AllFixed words) = new ≡ old
 IsUnused old new (refusal.RedoFault before after) = ⊤
 IsUnused old new (refusal.DiskFault before after) = ⊤
 IsUnused old new (refusal.LogSpent end) = ⊤
 
 -- what a desk, its frames and its log are behind a create
-pub record LeavesAll {D R : Type 0} (size : D → ℕ) (tells : D → Bool) (told : D → PageId → Option (List ℕ)) (spaces : D → ℕ → Option ℕ) (faults : D → ℕ) (logged : R → Option Told)
+pub record LeavesAll {D R : Type 0} (seen : D → DiskSeen) (logged : R → Option Told)
     (old new : State D) (s t : FramesSeen) (was is : log.State R) : Type 0 where
   pub count : length new.history ≤ length old.history + 3
-  pub tied : AreTied tells told spaces t new
+  pub tied : AreTied seen t new
   pub settled : AreSettled t.rows
-  pub desk : LeavesDesk size tells spaces faults old new
+  pub desk : LeavesDesk seen old new
   pub log : KeepsLog logged was is old.history new.history
   -- the log's device was used only where the log had to be made durable
   pub covered : (is.disk ≡ was.disk) ⊎ MustCover old s.rows was.seen.durable
-  pub behind : (o : Opened) → IfSome s.base (λ base. base ≡ o.base) → IsBehind tells told spaces o old s → IsBehind tells told spaces o new t
+  pub behind : (o : Opened) → IfSome s.base (λ base. base ≡ o.base) → IsBehind seen o old s → IsBehind seen o new t

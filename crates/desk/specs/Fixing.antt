@@ -1,13 +1,13 @@
 -- What a fix does, and why it is refused.
-use Rattle.std.specs.Prelude.{ℕ, List, ◌≡◌, ◌<◌, ◌≤◌, ◌⊎◌, Option, None, IsSome, ⊤}
+use Rattle.std.specs.Prelude.{ℕ, List, ◌≡◌, ◌<◌, ◌≤◌, ◌⊎◌, None, IsSome, ⊤}
 use Rattle.page_ids.specs.declared.frame_word.Word.{Word}
 use Rattle.page_ids.specs.declared.ids.PageId.{PageId}
-use Rattle.page_disk.specs.Disks.{pages_in}
+use Rattle.page_disk.specs.Disks.{DiskSeen, pages_in}
 use Rattle.trail.specs.declared.event.Call.{Call}
 use Rattle.trail.specs.declared.event.Call.TheVariants as call
 use Rattle.trail.specs.declared.event.Cause.{Cause}
 use Rattle.trail.specs.declared.event.Cause.TheVariants as cause
-use Rattle.trail.specs.Book.{book, next_frame}
+use Rattle.trail.specs.Book.{book, frame_in_turn}
 use Rattle.trail.specs.History.{home}
 use Rattle.frame_words.specs.Rows.{Row}
 use Rattle.desk.specs.Reads.{RoseWithin}
@@ -22,7 +22,7 @@ use Rattle.desk.specs.declared.calls.FrameErr.{FrameErr}
 use Rattle.desk.specs.declared.calls.FrameErr.TheVariants as unhad
 
 -- a frame was had, and the page was read into it before
-pub record IsMiss {D : Type 0} (told : D → PageId → Option (List ℕ)) (old new : State D) (rows rows' : List Row) (by : Caller) (p : PageId) (now : ℕ) (g : Granted) : Type 0 where
+pub record IsMiss {D : Type 0} (seen : D → DiskSeen) (old new : State D) (rows rows' : List Row) (by : Caller) (p : PageId) (now : ℕ) (g : Granted) : Type 0 where
   pub absent : home old.history p ≡ None
   pub had : State D
   pub cleared : List Row
@@ -30,12 +30,12 @@ pub record IsMiss {D : Type 0} (told : D → PageId → Option (List ℕ)) (old 
   pub between : List Row
   pub frame_is : IsHad old had rows cleared by g.frame
   -- what is read is what the disk told of the page before the call
-  pub page_told : told had.disk p ≡ told old.disk p
-  pub loaded : IsLoaded told had mid cleared between by p g.frame
+  pub page_told : (seen had.disk).told p ≡ (seen old.disk).told p
+  pub loaded : IsLoaded seen had mid cleared between by p g.frame
   pub hit : IsHit mid new between rows' by p now g
 
-abbrev pub IsGrantedBy : {D : Type 0} → (D → PageId → Option (List ℕ)) → State D → State D → List Row → List Row → Caller → PageId → ℕ → Granted → Type 0
-IsGrantedBy told old new rows rows' by p now g = IsHit old new rows rows' by p now g ⊎ IsMiss told old new rows rows' by p now g
+abbrev pub IsGrantedBy : {D : Type 0} → (D → DiskSeen) → State D → State D → List Row → List Row → Caller → PageId → ℕ → Granted → Type 0
+IsGrantedBy seen old new rows rows' by p now g = IsHit old new rows rows' by p now g ⊎ IsMiss seen old new rows rows' by p now g
 
 -- the caller holds as many fixes as it may; nothing else happened
 pub record IsHeldFull {D : Type 0} (old new : State D) (by : Caller) (asked : Call) (held full : ℕ) : Type 0 where
@@ -58,38 +58,38 @@ pub record IsUnwritten {D : Type 0} (old new : State D) (by : Caller) (p : PageI
   pub entry : IsRefused old new by asked why
 
 -- a frame was had, and the page could not be read into it, for this reason; the disk told of the page what it told before the call
-pub record IsUnread {D : Type 0} (told : D → PageId → Option (List ℕ)) (old : State D) (rows rows' : List Row) (by : Caller) (p : PageId) (why : State D → Type 0) : Type 0 where
+pub record IsUnread {D : Type 0} (seen : D → DiskSeen) (old : State D) (rows rows' : List Row) (by : Caller) (p : PageId) (why : State D → Type 0) : Type 0 where
   pub absent : home old.history p ≡ None
   pub had : State D
   pub frame : ℕ
   pub frame_is : IsHad old had rows rows' by frame
-  pub page_told : told had.disk p ≡ told old.disk p
+  pub page_told : (seen had.disk).told p ≡ (seen old.disk).told p
   pub because : why had
 
 -- Why a fix was refused, and what stands then: nothing has changed, or the refusal was appended. The log was durable up to `durable`, and its count of
 -- faults went from `was` to `is`.
-abbrev pub IsFixRefusal : {D : Type 0} → (D → PageId → Option (List ℕ)) → (D → ℕ → Option ℕ) → (D → ℕ) → State D → State D → List Row → List Row → Caller → ℕ → PageId → ℕ → ℕ → ℕ → ℕ → FixErr → Type 0
-IsFixRefusal told spaces faults old new rows rows' by held p now durable was is refusal.OutOfMemory = (new ≡ old) × (rows' ≡ rows)
-IsFixRefusal told spaces faults old new rows rows' by held p now durable was is (refusal.NoSuchPage pages) = IsOutside spaces old new by p (call.Fix p now) pages × (rows' ≡ rows)
-IsFixRefusal told spaces faults old new rows rows' by held p now durable was is (refusal.HoldFull full) =
-    (p.page < pages_in (spaces old.disk) p.space) × IsHeldFull old new by (call.Fix p now) held full × (rows' ≡ rows)
-IsFixRefusal told spaces faults old new rows rows' by held p now durable was is (refusal.AllFixed seen) =
-    (p.page < pages_in (spaces old.disk) p.space) × (held < 64) × IsUnseated old new rows by p (call.Fix p now) seen × (rows' ≡ rows)
-IsFixRefusal told spaces faults old new rows rows' by held p now durable was is (refusal.RedoFault before after) =
-    (p.page < pages_in (spaces old.disk) p.space) × (held < 64)
+abbrev pub IsFixRefusal : {D : Type 0} → (D → DiskSeen) → State D → State D → List Row → List Row → Caller → ℕ → PageId → ℕ → ℕ → ℕ → ℕ → FixErr → Type 0
+IsFixRefusal seen old new rows rows' by held p now durable was is refusal.OutOfMemory = (new ≡ old) × (rows' ≡ rows)
+IsFixRefusal seen old new rows rows' by held p now durable was is (refusal.NoSuchPage pages) = IsOutside seen old new by p (call.Fix p now) pages × (rows' ≡ rows)
+IsFixRefusal seen old new rows rows' by held p now durable was is (refusal.HoldFull full) =
+    (p.page < pages_in (seen old.disk).spaces p.space) × IsHeldFull old new by (call.Fix p now) held full × (rows' ≡ rows)
+IsFixRefusal seen old new rows rows' by held p now durable was is (refusal.AllFixed words) =
+    (p.page < pages_in (seen old.disk).spaces p.space) × (held < 64) × IsUnseated old new rows by p (call.Fix p now) words × (rows' ≡ rows)
+IsFixRefusal seen old new rows rows' by held p now durable was is (refusal.RedoFault before after) =
+    (p.page < pages_in (seen old.disk).spaces p.space) × (held < 64)
     × IsUnwritten old new by p (call.Fix p now) was is before after (cause.RedoFault before after) × (rows' ≡ rows) × MustCover old rows durable × (new.disk ≡ old.disk)
-IsFixRefusal told spaces faults old new rows rows' by held p now durable was is (refusal.DiskFault before after) =
-    (p.page < pages_in (spaces old.disk) p.space) × (held < 64)
-    × ((IsUnwritten old new by p (call.Fix p now) (faults old.disk) (faults new.disk) before after (cause.DiskFault before after) × (rows' ≡ rows) × MustWrite old rows)
-    ⊎ IsUnread told old rows rows' by p (λ had. (faults old.disk ≤ faults had.disk) × IsFaulted faults had new by p now before after))
-IsFixRefusal told spaces faults old new rows rows' by held p now durable was is (refusal.BadPage bad) =
-    (p.page < pages_in (spaces old.disk) p.space) × (held < 64)
-    × IsUnread told old rows rows' by p (λ had. IsUnsound told had new by p now bad)
+IsFixRefusal seen old new rows rows' by held p now durable was is (refusal.DiskFault before after) =
+    (p.page < pages_in (seen old.disk).spaces p.space) × (held < 64)
+    × ((IsUnwritten old new by p (call.Fix p now) (seen old.disk).faults (seen new.disk).faults before after (cause.DiskFault before after) × (rows' ≡ rows) × MustWrite old rows)
+    ⊎ IsUnread seen old rows rows' by p (λ had. ((seen old.disk).faults ≤ (seen had.disk).faults) × IsFaulted seen had new by p now before after))
+IsFixRefusal seen old new rows rows' by held p now durable was is (refusal.BadPage bad) =
+    (p.page < pages_in (seen old.disk).spaces p.space) × (held < 64)
+    × IsUnread seen old rows rows' by p (λ had. IsUnsound seen had new by p now bad)
 
 -- A fix for which no page has to leave: its page is resident or lies outside its space, the caller holds as many as it may, or a frame is free.
-abbrev pub NeedsNoVictim : {D : Type 0} → (D → ℕ → Option ℕ) → State D → ℕ → PageId → Type 0
-NeedsNoVictim spaces desk held p =
-    IsSome (home desk.history p) ⊎ (pages_in (spaces desk.disk) p.space ≤ p.page) ⊎ (64 ≤ held) ⊎ IsSome (next_frame (book desk.config desk.history))
+abbrev pub NeedsNoVictim : {D : Type 0} → (D → DiskSeen) → State D → ℕ → PageId → Type 0
+NeedsNoVictim seen desk held p =
+    IsSome (home desk.history p) ⊎ (pages_in (seen desk.disk).spaces p.space ≤ p.page) ⊎ (64 ≤ held) ⊎ IsSome (frame_in_turn (book desk.config desk.history))
 
 -- why a fix is refused for which no frame was had
 abbrev pub fix_err_of : FrameErr → FixErr
@@ -103,7 +103,7 @@ abbrev pub IsUnlogged : {L : Type 0} → L → L → FixErr → Type 0
 IsUnlogged old new refusal.OutOfMemory = new ≡ old
 IsUnlogged old new (refusal.NoSuchPage pages) = new ≡ old
 IsUnlogged old new (refusal.HoldFull held) = new ≡ old
-IsUnlogged old new (refusal.AllFixed seen) = new ≡ old
+IsUnlogged old new (refusal.AllFixed words) = new ≡ old
 IsUnlogged old new (refusal.RedoFault before after) = ⊤
 IsUnlogged old new (refusal.DiskFault before after) = ⊤
 IsUnlogged old new (refusal.BadPage bad) = ⊤

@@ -11,9 +11,9 @@ use Rattle.trail.specs.declared.event.Dirty.{Dirty}
 use Rattle.trail.specs.declared.event.Entry.{Entry}
 use Rattle.trail.specs.declared.event.Kind.{Kind}
 use Rattle.trail.specs.declared.event.Kind.TheVariants as kind
-use Rattle.trail.specs.Places.{mark}
+use Rattle.trail.specs.Trails.{mark}
 use Rattle.trail.specs.History.{home}
-use Rattle.trail.specs.Book.{Book, book, is_late}
+use Rattle.trail.specs.Book.{Book, Hand, book, is_late}
 use Rattle.trail.specs.Dirt.{dirty, dirt_of, is_dirty, log_end}
 use Rattle.trail.specs.Order.{order}
 use Rattle.desk.specs.Ledger.{IsVacant}
@@ -56,7 +56,7 @@ abbrev pub in_turn : Option ℕ → List ℕ → List ℕ
 in_turn hand free = option_map_or (λ f. f ∷ free) hand free
 
 -- the book of one chunk, and nothing withdrawn
-abbrev pub plain_book : Config → List ℕ → Option ℕ → Book
+abbrev pub plain_book : Config → List ℕ → Option Hand → Book
 plain_book c free hand = record { chunks = chunks_of c; area = None; free = free; withdrawn = []; hand = hand }
 
 -- the page that the frame had last
@@ -80,7 +80,9 @@ pub record KeepsHomes (c : Config) (h : List Entry) (homes : PageId → Option �
 
 -- the free frames and the one in hand are those of the history, and no page's home
 pub record KeepsBook (c : Config) (h : List Entry) (free : List ℕ) (hand : Option ℕ) : Type 0 where
-  pub book_is : book c h ≡ plain_book c free hand
+  pub owned : Option Hand
+  pub hand_is : option_map (λ (x : Hand). x.frame) owned ≡ hand
+  pub book_is : book c h ≡ plain_book c free owned
   pub distinct : AreFrames c.frames (in_turn hand free)
   pub taken : (p : PageId) (f : ℕ) → home h p ≡ Some f → Absent f (in_turn hand free)
 
@@ -89,8 +91,8 @@ abbrev pub node_of : List Entry → Dirty → Node
 node_of h d = record { frame = unwrap_or (home h d.page) 0; oldest = d.oldest }
 
 -- the LSN behind the last change of a dirty page; none of a clean one
-abbrev pub newest_of : List Entry → PageId → Option ℕ
-newest_of h p = option_map (λ (d : Dirty). d.newest) (dirt_of (dirty h) p)
+abbrev pub dirty_lsn : List Entry → PageId → Option ℕ
+dirty_lsn h p = option_map (λ (d : Dirty). d.newest) (dirt_of (dirty h) p)
 
 -- and as it is kept of a frame
 abbrev pub newest_in : List (Option ℕ) → ℕ → Option ℕ
@@ -106,7 +108,7 @@ pub record KeepsDirty (c : Config) (h : List Entry) (newest : List (Option ℕ))
   pub listed_are : flush.listed ≡ map (node_of h) (reverse (dirty h))
   pub room_is : flush.room ≡ c.frames
   pub clean : (p : PageId) → home h p ≡ None → is_dirty h p ≡ false
-  pub newest_are : (p : PageId) (f : ℕ) → home h p ≡ Some f → newest_in newest f ≡ newest_of h p
+  pub newest_are : (p : PageId) (f : ℕ) → home h p ≡ Some f → newest_in newest f ≡ dirty_lsn h p
   pub vacant : (f : ℕ) → IsVacant h f → newest_in newest f ≡ None
   pub newest_count : length newest ≡ c.frames
   pub logged : AreLogged (log_end h) (dirty h)

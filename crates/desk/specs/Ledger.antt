@@ -6,10 +6,10 @@ use Rattle.page_ids.specs.declared.config.Config.{Config}
 use Rattle.trail.specs.declared.event.Kind.{Kind}
 use Rattle.trail.specs.declared.event.Kind.TheVariants as kind
 use Rattle.trail.specs.declared.event.Entry.{Entry}
-use Rattle.trail.specs.Places.{mark}
+use Rattle.trail.specs.Trails.{mark}
 use Rattle.trail.specs.History.{home}
 use Rattle.trail.specs.Dirt.{is_dirty, log_end}
-use Rattle.trail.specs.Book.{book, next_frame}
+use Rattle.trail.specs.Book.{book, frame_in_turn}
 use Rattle.desk.specs.State.{Kept}
 use Rattle.desk.specs.declared.calls.Caller.{Caller}
 
@@ -37,12 +37,12 @@ entry_behind first h by k = record { place = mark first h + 1; caller = by.pass;
 -- a page without a home comes into the frame that is next
 pub record IsArrival (l : Ledger) (p : PageId) (f : ℕ) : Type 0 where
   pub absent : home l.history p ≡ None
-  pub next : next_frame (book l.config l.history) ≡ Some f
+  pub next : frame_in_turn (book l.config l.history) ≡ Some f
 
 -- a page without a home is made in the frame that is next, and the record of that starts at or behind the end of the log
 pub record IsMaking (l : Ledger) (p : PageId) (f start end : ℕ) : Type 0 where
   pub absent : home l.history p ≡ None
-  pub next : next_frame (book l.config l.history) ≡ Some f
+  pub next : frame_in_turn (book l.config l.history) ≡ Some f
   pub behind : log_end l.history ≤ start
   pub rises : start ≤ end
 
@@ -56,7 +56,7 @@ pub record IsChange (l : Ledger) (p : PageId) (start end : ℕ) : Type 0 where
 pub record IsDeparture (l : Ledger) (p : PageId) (f : ℕ) : Type 0 where
   pub resident : home l.history p ≡ Some f
   pub clean : is_dirty l.history p ≡ false
-  pub none_free : next_frame (book l.config l.history) ≡ None
+  pub none_free : frame_in_turn (book l.config l.history) ≡ None
 
 -- What an entry needs of the lists. Entries of a kind that no call makes so far may not come.
 abbrev pub MayCome : Ledger → Kind → Type 0

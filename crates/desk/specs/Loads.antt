@@ -4,7 +4,7 @@ use Rattle.page_ids.specs.Content.{Content}
 use Rattle.page_ids.specs.Layout.{IsPage}
 use Rattle.page_ids.specs.declared.ids.PageId.{PageId}
 use Rattle.redo_mark.specs.Logs.{Seen}
-use Rattle.trail.specs.Alone.{cause_words}
+use Rattle.trail.specs.Words.{cause_words}
 use Rattle.trail.specs.Dirt.{log_end}
 use Rattle.trail.specs.declared.event.Call.{Call}
 use Rattle.trail.specs.declared.event.Cause.{Cause}
@@ -37,7 +37,7 @@ pub record IsInImage (told : Option (List ℕ)) (s : FramesSeen) (p : PageId) (f
 
 -- the cause has no word, and may refuse this call of a caller with these open fixes
 pub record MayRefuse (s : FramesSeen) (asked : Call) (why : Cause) : Type 0 where
-  pub words : cause_words why ≡ []
+  pub words : cause_words asked why ≡ []
   pub fits : IfSome s.opened (λ opened. FitsRefusal opened asked why)
 
 -- one entry came, which tells nothing of the log

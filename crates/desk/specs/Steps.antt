@@ -1,11 +1,11 @@
 -- What a call of the desk appends, and what it leaves.
-use Rattle.std.specs.Prelude.{ℕ, List, [], ◌∷◌, ◌≡◌, ◌+◌, ◌<◌, ◌≤◌, Option, None, Some, slice_index_or, slice_set, IfSome}
+use Rattle.std.specs.Prelude.{ℕ, List, [], ◌∷◌, ◌≡◌, ◌+◌, ◌<◌, ◌≤◌, None, Some, slice_index_or, slice_set, IfSome}
 use Rattle.page_ids.specs.Content.{Content}
 use Rattle.page_ids.specs.Layout.{IsPage}
 use Rattle.page_ids.specs.declared.ids.PageId.{PageId}
 use Rattle.page_ids.specs.declared.config.Config.{Config}
 use Rattle.page_ids.specs.declared.layout.BadPage.{BadPage}
-use Rattle.page_disk.specs.Disks.{pages_in}
+use Rattle.page_disk.specs.Disks.{DiskSeen, pages_in}
 use Rattle.trail.specs.declared.event.Entry.{Entry}
 use Rattle.trail.specs.declared.event.Call.{Call}
 use Rattle.trail.specs.declared.event.Call.TheVariants as call
@@ -13,9 +13,9 @@ use Rattle.trail.specs.declared.event.Cause.{Cause}
 use Rattle.trail.specs.declared.event.Cause.TheVariants as cause
 use Rattle.trail.specs.declared.event.Kind.{Kind}
 use Rattle.trail.specs.declared.event.Kind.TheVariants as kind
-use Rattle.trail.specs.Places.{mark}
+use Rattle.trail.specs.Trails.{mark}
 use Rattle.trail.specs.History.{home, change}
-use Rattle.trail.specs.Book.{book, next_frame}
+use Rattle.trail.specs.Book.{book, frame_in_turn}
 use Rattle.frame_words.specs.Rows.{Row, new_row, laid_row, published_row, held_row}
 use Rattle.desk.specs.Ledger.{IsVacant, entry_behind}
 use Rattle.desk.specs.State.{State}
@@ -44,14 +44,14 @@ abbrev pub loaded_row : Row → PageId → Content → ℕ → Row
 loaded_row r p content clock = published_row (laid_row r content) p clock
 
 -- the page was read from the disk into the next frame
-pub record IsLoaded {D : Type 0} (told : D → PageId → Option (List ℕ)) (old new : State D) (rows rows' : List Row) (by : Caller) (p : PageId) (f : ℕ) : Type 0 where
+pub record IsLoaded {D : Type 0} (seen : D → DiskSeen) (old new : State D) (rows rows' : List Row) (by : Caller) (p : PageId) (f : ℕ) : Type 0 where
   pub absent : home old.history p ≡ None
   pub below : f < old.config.frames
   pub fresh : IsVacant old.history f
-  pub frame : next_frame (book old.config old.history) ≡ Some f
+  pub frame : frame_in_turn (book old.config old.history) ≡ Some f
   pub entry : IsAppended old new by (kind.Load p f)
   pub content : Content
-  pub read : IfSome (told old.disk p) (λ bytes. IsPage p bytes content)
+  pub read : IfSome ((seen old.disk).told p) (λ bytes. IsPage p bytes content)
   pub rows_are : rows' ≡ slice_set rows f (loaded_row (row_in rows f) p content (mark old.config.first old.history + 1))
 
 -- A fix of a page that is in the frame was granted, and no device was used. The frame has one fix more.
@@ -72,33 +72,33 @@ abbrev pub IsRefusedFix : {D : Type 0} → State D → State D → Caller → Pa
 IsRefusedFix old new by p now why = IsRefused old new by (call.Fix p now) why
 
 -- the page lies outside its space; no device was used
-pub record IsOutside {D : Type 0} (spaces : D → ℕ → Option ℕ) (old new : State D) (by : Caller) (p : PageId) (asked : Call) (pages : ℕ) : Type 0 where
-  pub count : pages ≡ pages_in (spaces old.disk) p.space
+pub record IsOutside {D : Type 0} (seen : D → DiskSeen) (old new : State D) (by : Caller) (p : PageId) (asked : Call) (pages : ℕ) : Type 0 where
+  pub count : pages ≡ pages_in (seen old.disk).spaces p.space
   pub past_end : pages ≤ p.page
   pub entry : IsRefused old new by asked (cause.NoSuchPage pages)
   pub disk : new.disk ≡ old.disk
 
 -- the disk's count of faults rose so in the read of a page that was not resident
-pub record IsFaulted {D : Type 0} (faults : D → ℕ) (old new : State D) (by : Caller) (p : PageId) (now before after : ℕ) : Type 0 where
+pub record IsFaulted {D : Type 0} (seen : D → DiskSeen) (old new : State D) (by : Caller) (p : PageId) (now before after : ℕ) : Type 0 where
   pub absent : home old.history p ≡ None
-  pub fault : IsFault (faults old.disk) (faults new.disk) before after
+  pub fault : IsFault (seen old.disk).faults (seen new.disk).faults before after
   pub entry : IsRefusedFix old new by p now (cause.DiskFault before after)
 
 -- the bytes that were read of a page that was not resident are no page of its id
-pub record IsUnsound {D : Type 0} (told : D → PageId → Option (List ℕ)) (old new : State D) (by : Caller) (p : PageId) (now : ℕ) (bad : BadPage) : Type 0 where
+pub record IsUnsound {D : Type 0} (seen : D → DiskSeen) (old new : State D) (by : Caller) (p : PageId) (now : ℕ) (bad : BadPage) : Type 0 where
   pub absent : home old.history p ≡ None
-  pub read : IsBadRead (told old.disk p) p bad
+  pub read : IsBadRead ((seen old.disk).told p) p bad
   pub entry : IsRefusedFix old new by p now (cause.BadPage bad)
 
 -- why a page was not loaded
-abbrev pub IsLoadRefusal : {D : Type 0} → (D → PageId → Option (List ℕ)) → (D → ℕ) → State D → State D → Caller → PageId → ℕ → FixErr → Type 0
-IsLoadRefusal told faults old new by p now refusal.OutOfMemory = ⊥
-IsLoadRefusal told faults old new by p now (refusal.NoSuchPage pages) = ⊥
-IsLoadRefusal told faults old new by p now (refusal.HoldFull held) = ⊥
-IsLoadRefusal told faults old new by p now (refusal.AllFixed seen) = ⊥
-IsLoadRefusal told faults old new by p now (refusal.RedoFault before after) = ⊥
-IsLoadRefusal told faults old new by p now (refusal.DiskFault before after) = IsFaulted faults old new by p now before after
-IsLoadRefusal told faults old new by p now (refusal.BadPage bad) = IsUnsound told old new by p now bad
+abbrev pub IsLoadRefusal : {D : Type 0} → (D → DiskSeen) → State D → State D → Caller → PageId → ℕ → FixErr → Type 0
+IsLoadRefusal seen old new by p now refusal.OutOfMemory = ⊥
+IsLoadRefusal seen old new by p now (refusal.NoSuchPage pages) = ⊥
+IsLoadRefusal seen old new by p now (refusal.HoldFull held) = ⊥
+IsLoadRefusal seen old new by p now (refusal.AllFixed words) = ⊥
+IsLoadRefusal seen old new by p now (refusal.RedoFault before after) = ⊥
+IsLoadRefusal seen old new by p now (refusal.DiskFault before after) = IsFaulted seen old new by p now before after
+IsLoadRefusal seen old new by p now (refusal.BadPage bad) = IsUnsound seen old new by p now bad
 
 -- nothing happened yet
 pub record IsFresh {D : Type 0} (desk : State D) (config : Config) (instance : ℕ) (disk : D) : Type 0 where

@@ -1,9 +1,10 @@
 -- How frames stand to a desk between its calls, and who may call.
-use Rattle.std.specs.Prelude.{ℕ, Bool, true, false, List, ◌≡◌, ◌<◌, ◌≤◌, ◌*◌, Option, None, Some, IfSome, IsSome, IsSomeAnd, length}
+use Rattle.std.specs.Prelude.{ℕ, true, false, List, ◌≡◌, ◌<◌, ◌≤◌, ◌*◌, Option, None, Some, IfSome, IsSome, IsSomeAnd, length}
 use Rattle.page_ids.specs.Chunks.{instance_of}
 use Rattle.page_ids.specs.Content.{Content}
 use Rattle.page_ids.specs.Size.{page_bytes}
 use Rattle.page_ids.specs.declared.ids.PageId.{PageId}
+use Rattle.page_disk.specs.Disks.{DiskSeen}
 use Rattle.trail.specs.declared.event.Dirty.{Dirty}
 use Rattle.trail.specs.declared.event.Entry.{Entry}
 use Rattle.trail.specs.History.{home, change}
@@ -38,7 +39,7 @@ abbrev pub AreStamped : List Entry → FramesSeen → Type 0
 AreStamped h s = (p : PageId) (f : ℕ) (d : Dirty) → home h p ≡ Some f → dirt_of (dirty h) p ≡ Some d → OnTold (row_at s f).image (λ c. c.lsn ≡ d.newest)
 
 -- What each call of a desk that works on frames needs of them, and leaves true.
-pub record AreTied {D : Type 0} (tells : D → Bool) (told : D → PageId → Option (List ℕ)) (spaces : D → ℕ → Option ℕ) (s : FramesSeen) (desk : State D) : Type 0 where
+pub record AreTied {D : Type 0} (seen : D → DiskSeen) (s : FramesSeen) (desk : State D) : Type 0 where
   pub count : length s.rows ≡ desk.config.frames * desk.config.max
   pub whole : desk.config.frames ≤ length s.rows
   pub rows : (f : ℕ) → f < length s.rows → IsTied (page_bytes desk.config.page) desk.config.frames desk.history (row_at s f) f
@@ -55,7 +56,7 @@ pub record AreTied {D : Type 0} (tells : D → Bool) (told : D → PageId → Op
   -- and each resident page is one of its instance
   pub own : IsSome s.history → (p : PageId) (f : ℕ) → home desk.history p ≡ Some f → instance_of p desk.config.instances ≡ desk.instance
   -- values that are told are those of the history, in the frames and on the disk
-  pub valued : IfSome s.base (λ base. (o : Opened) × (o.base ≡ base) × IsBehind tells told spaces o desk s)
+  pub valued : IfSome s.base (λ base. (o : Opened) × (o.base ≡ base) × IsBehind seen o desk s)
 
 -- each fix is told, so nobody else is there to latch a frame, and what each image holds is told
 abbrev pub AreAlone : FramesSeen → Type 0

@@ -11,7 +11,7 @@ use Rattle.trail.specs.declared.event.Dirty.{Dirty}
 use Rattle.trail.specs.declared.event.Entry.{Entry}
 use Rattle.trail.specs.declared.event.Kind.TheVariants as kind
 use Rattle.trail.specs.History.{home}
-use Rattle.trail.specs.Book.{book, next_frame}
+use Rattle.trail.specs.Book.{book, frame_in_turn}
 use Rattle.trail.specs.Dirt.{dirty, dirt_of, is_dirty}
 use Rattle.trail.specs.Victim.{IsSought, AreAllFixed}
 use Rattle.frame_words.specs.Rows.{Row, IsFound, claimed_row}
@@ -47,7 +47,7 @@ pub record IsEvicted {D : Type 0} (old new : State D) (rows rows' : List Row) (b
   pub passed : List (ℕ × Word)
   pub mid : List Entry
   pub image : Option (Option Content)
-  pub none_free : next_frame (book old.config old.history) ≡ None
+  pub none_free : frame_in_turn (book old.config old.history) ≡ None
   pub sought : IsSought old.config old.history page passed
   pub found : AreFoundOn rows passed
   pub rising : AreRising passed
@@ -63,7 +63,7 @@ pub record IsEvicted {D : Type 0} (old new : State D) (rows rows' : List Row) (b
 
 -- a frame was free, and nothing happened
 pub record IsFree {D : Type 0} (old new : State D) (rows rows' : List Row) (f : ℕ) : Type 0 where
-  pub front : next_frame (book old.config old.history) ≡ Some f
+  pub front : frame_in_turn (book old.config old.history) ≡ Some f
   pub same : new ≡ old
   pub rows_are : rows' ≡ rows
 
@@ -74,7 +74,7 @@ IsHad old new rows rows' by f = IsFree old new rows rows' f ⊎ IsEvicted old ne
 -- no frame was free, and each one was found with a fix
 pub record IsFull {D : Type 0} (old : State D) (rows : List Row) (p : PageId) (seen : List (ℕ × Word)) : Type 0 where
   pub all : AreAllFixed old.config old.history p seen
-  pub none_free : next_frame (book old.config old.history) ≡ None
+  pub none_free : frame_in_turn (book old.config old.history) ≡ None
   pub found : AreFoundOn rows seen
   pub rising : AreRising seen
 
@@ -97,7 +97,7 @@ pub record MustWrite {D : Type 0} (old : State D) (rows : List Row) : Type 0 whe
   pub victim : PageId
   pub frame : ℕ
   pub passed : List (ℕ × Word)
-  pub none_free : next_frame (book old.config old.history) ≡ None
+  pub none_free : frame_in_turn (book old.config old.history) ≡ None
   pub sought : IsSought old.config old.history victim passed
   pub found : AreFoundOn rows passed
   pub housed : home old.history victim ≡ Some frame

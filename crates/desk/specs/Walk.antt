@@ -11,8 +11,7 @@ use Rattle.trail.specs.declared.event.Entry.{Entry}
 use Rattle.trail.specs.History.{home}
 use Rattle.trail.specs.Dirt.{dirty, dirt_of, log_end}
 use Rattle.trail.specs.Order.{order}
-use Rattle.trail.specs.Book.{book}
-use Rattle.trail.specs.Victim.{frames_there}
+use Rattle.trail.specs.Book.{book, frames_there}
 
 -- whether the page is in the frame
 abbrev pub is_in_frame : List Entry → ℕ → PageId → Bool

@@ -52,10 +52,10 @@ impl<D: PageDisk> Desk<D> {
         ensures refused { OnErr result (self.new.state ≡ self.old.state) }
         ensures logged { IsLogged redo.now.seen self.old.state.history → IsLogged redo.now.seen self.new.state.history }
         ensures known { log_end self.new.state.history ≤ redo.now.seen.end }
-        ensures tied { IfOk result (λ lsn. (s : FramesSeen) → AreTied D.tells D.told D.space_pages s self.old.state
-            → AreTied D.tells D.told D.space_pages (appended s (next_entry self.old.state by (Kind.Check lsn))) self.new.state) }
-        ensures behind { IfOk result (λ lsn. (o : Opened) (s : FramesSeen) → IsBehind D.tells D.told D.space_pages o self.old.state s
-            → IsBehind D.tells D.told D.space_pages o self.new.state (appended s (next_entry self.old.state by (Kind.Check lsn)))) }
+        ensures tied { IfOk result (λ lsn. (s : FramesSeen) → AreTied D.seen s self.old.state
+            → AreTied D.seen (appended s (next_entry self.old.state by (Kind.Check lsn))) self.new.state) }
+        ensures behind { IfOk result (λ lsn. (o : Opened) (s : FramesSeen) → IsBehind D.seen o self.old.state s
+            → IsBehind D.seen o self.new.state (appended s (next_entry self.old.state by (Kind.Check lsn)))) }
     {
         if self.room_for(1).is_err() {
             return Err(CallErr::OutOfMemory);

@@ -49,16 +49,16 @@ impl<D: PageDisk> Desk<D> {
         ensures ok { IfOk result (λ upto. (image.now.lsn ≤ upto) × (upto ≡ redo.new.seen.durable)) }
         ensures mark { OnOk result (redo.new.seen.durable ≡ covered_to redo.old.seen.durable redo.old.seen.end image.now.lsn) }
         ensures end { redo.new.seen.end ≡ redo.old.seen.end }
-        ensures written { OnOk result (IsImageTold D.tells D.told page image.now self.old.state.disk self.new.state.disk) }
-        ensures failed { OnErr result (Fades (D.told self.old.state.disk page) (D.told self.new.state.disk page)) }
-        ensures others { IsOtherwiseSame D.page_size D.tells D.told D.space_pages D.fault_count page
-            self.old.state.disk self.new.state.disk }
-        ensures fault { IfErr result (λ e. IsWriteFault (D.fault_count self.old.state.disk)
-            (D.fault_count self.new.state.disk) redo.old.seen.faults redo.new.seen.faults e) }
+        ensures written { OnOk result (IsImageTold page image.now (D.seen self.old.state.disk) (D.seen self.new.state.disk)) }
+        ensures failed { OnErr result (Fades ((D.seen self.old.state.disk).told page) ((D.seen self.new.state.disk).told page)) }
+        ensures others { IsOtherwiseSame page
+            (D.seen self.old.state.disk) (D.seen self.new.state.disk) }
+        ensures fault { IfErr result (λ e. IsWriteFault (D.seen self.old.state.disk).faults
+            (D.seen self.new.state.disk).faults redo.old.seen.faults redo.new.seen.faults e) }
         ensures forced { IfErr result (λ e. IsForced self.old.state.disk self.new.state.disk (redo.old.seen.durable < image.now.lsn) e) }
         ensures history { self.new.state.history ≡ self.old.state.history }
         ensures room { self.new.room ≡ self.old.room }
-        ensures desk { LeavesDesk D.page_size D.tells D.space_pages D.fault_count self.old.state self.new.state }
+        ensures desk { LeavesDesk D.seen self.old.state self.new.state }
         ensures later { IsLater redo.old.seen redo.new.seen }
         ensures opening { redo.new.opening ≡ redo.old.opening }
         ensures kept { IsKept redo.new.seen (R.told redo.new.disk) }
@@ -77,7 +77,7 @@ impl<D: PageDisk> Desk<D> {
     ) -> Result<(), WriteErr>
         requires places { self.old.state.config.first + length self.old.state.history + 1 < 2 ^ 48 }
         requires room { 0 < self.old.room }
-        requires tied { AreTied D.tells D.told D.space_pages (F.seen frames.old) self.old.state }
+        requires tied { AreTied D.seen (F.seen frames.old) self.old.state }
         requires alone { AreAlone (F.seen frames.old) }
         requires turn { HasTurn (F.seen frames.old) by }
         requires oldest { (rest : List Dirty) × (dirty self.old.state.history ≡ oldest ∷ rest) }
@@ -88,22 +88,22 @@ impl<D: PageDisk> Desk<D> {
             self.old.state.history self.new.state.history) }
         ensures end { redo.new.seen.end ≡ redo.old.seen.end }
         ensures err { OnErr result (self.new.state.history ≡ self.old.state.history) }
-        ensures fault { IfErr result (λ e. IsWriteFault (D.fault_count self.old.state.disk)
-            (D.fault_count self.new.state.disk) redo.old.seen.faults redo.new.seen.faults e) }
+        ensures fault { IfErr result (λ e. IsWriteFault (D.seen self.old.state.disk).faults
+            (D.seen self.new.state.disk).faults redo.old.seen.faults redo.new.seen.faults e) }
         ensures forced { IfErr result (λ e. IsForced self.old.state.disk self.new.state.disk (redo.old.seen.durable < oldest.newest) e) }
-        ensures desk { LeavesDesk D.page_size D.tells D.space_pages D.fault_count self.old.state self.new.state }
+        ensures desk { LeavesDesk D.seen self.old.state self.new.state }
         ensures room { self.old.room ≤ self.new.room + 1 }
         ensures unused { OnErr result (self.new.room ≡ self.old.room) }
         ensures rows { (F.seen frames.new).rows ≡ (F.seen frames.old).rows }
-        ensures tied { AreTied D.tells D.told D.space_pages (F.seen frames.new) self.new.state }
+        ensures tied { AreTied D.seen (F.seen frames.new) self.new.state }
         ensures turn { HasTurn (F.seen frames.new) by }
         ensures logged { IsLogged redo.old.seen self.old.state.history → IsLogged redo.new.seen self.new.state.history }
         ensures known { log_end self.new.state.history ≤ redo.new.seen.end }
         ensures later { IsLater redo.old.seen redo.new.seen }
         ensures opening { redo.new.opening ≡ redo.old.opening }
         ensures kept { IsKept redo.new.seen (R.told redo.new.disk) }
-        ensures behind { (o : Opened) → IsBehind D.tells D.told D.space_pages o self.old.state (F.seen frames.old)
-            → IsBehind D.tells D.told D.space_pages o self.new.state (F.seen frames.new) }
+        ensures behind { (o : Opened) → IsBehind D.seen o self.old.state (F.seen frames.old)
+            → IsBehind D.seen o self.new.state (F.seen frames.new) }
     {
         let Dirty { page, newest, .. } = oldest;
         let frame = self.frame_of(page);
@@ -150,7 +150,7 @@ impl<D: PageDisk> Desk<D> {
         requires places { self.old.state.config.first + length self.old.state.history
             + length (dirty self.old.state.history) + 1 < 2 ^ 48 }
         requires room { (n : ℕ) → n ≤ most → n ≤ length (dirty self.old.state.history) → n ≤ self.old.room }
-        requires tied { AreTied D.tells D.told D.space_pages (F.seen frames.old) self.old.state }
+        requires tied { AreTied D.seen (F.seen frames.old) self.old.state }
         requires alone { AreAlone (F.seen frames.old) }
         requires turn { HasTurn (F.seen frames.old) by }
         requires known { log_end self.old.state.history ≤ redo.old.seen.end }
@@ -165,19 +165,19 @@ impl<D: PageDisk> Desk<D> {
             × (n ≡ 0 → IsForced self.old.state.disk self.new.state.disk ⊤ e)) }
         ensures upto { (mark : ℕ) × AreMarked redo.old.seen.durable redo.old.seen.end mark
             self.old.state.history self.new.state.history }
-        ensures fault { IfErr result (λ e. IsWriteFault (D.fault_count self.old.state.disk)
-            (D.fault_count self.new.state.disk) redo.old.seen.faults redo.new.seen.faults e) }
-        ensures desk { LeavesDesk D.page_size D.tells D.space_pages D.fault_count self.old.state self.new.state }
+        ensures fault { IfErr result (λ e. IsWriteFault (D.seen self.old.state.disk).faults
+            (D.seen self.new.state.disk).faults redo.old.seen.faults redo.new.seen.faults e) }
+        ensures desk { LeavesDesk D.seen self.old.state self.new.state }
         ensures rows { (F.seen frames.new).rows ≡ (F.seen frames.old).rows }
-        ensures tied { AreTied D.tells D.told D.space_pages (F.seen frames.new) self.new.state }
+        ensures tied { AreTied D.seen (F.seen frames.new) self.new.state }
         ensures turn { HasTurn (F.seen frames.new) by }
         ensures logged { IsLogged redo.old.seen self.old.state.history → IsLogged redo.new.seen self.new.state.history }
         ensures known { log_end self.new.state.history ≤ redo.new.seen.end }
         ensures later { IsLater redo.old.seen redo.new.seen }
         ensures opening { redo.new.opening ≡ redo.old.opening }
         ensures kept { IsKept redo.old.seen (R.told redo.old.disk) → IsKept redo.new.seen (R.told redo.new.disk) }
-        ensures behind { (o : Opened) → IsBehind D.tells D.told D.space_pages o self.old.state (F.seen frames.old)
-            → IsBehind D.tells D.told D.space_pages o self.new.state (F.seen frames.new) }
+        ensures behind { (o : Opened) → IsBehind D.seen o self.old.state (F.seen frames.old)
+            → IsBehind D.seen o self.new.state (F.seen frames.new) }
     {
         for written in 0..most {
             let Some(oldest) = self.first_dirty() else {
@@ -195,13 +195,12 @@ impl<D: PageDisk> Desk<D> {
     fn sync(&mut self) -> Result<(), WriteErr>
         ensures history { self.new.state.history ≡ self.old.state.history }
         ensures room { self.new.room ≡ self.old.room }
-        ensures fault { (first last : ℕ) → IfErr result (λ e. IsWriteFault (D.fault_count self.old.state.disk)
-            (D.fault_count self.new.state.disk) first last e) }
+        ensures fault { (first last : ℕ) → IfErr result (λ e. IsWriteFault (D.seen self.old.state.disk).faults
+            (D.seen self.new.state.disk).faults first last e) }
         ensures unlogged { IfErr result (λ e. IsForced self.old.state.disk self.new.state.disk ⊥ e) }
-        ensures desk { LeavesDesk D.page_size D.tells D.space_pages D.fault_count self.old.state self.new.state }
-        ensures same { IsSameDisk D.page_size D.tells D.told D.space_pages D.fault_count
-            self.old.state.disk self.new.state.disk }
-        ensures synced { OnOk result (IsTrue (D.synced self.new.state.disk)) }
+        ensures desk { LeavesDesk D.seen self.old.state self.new.state }
+        ensures same { IsSameDisk (D.seen self.old.state.disk) (D.seen self.new.state.disk) }
+        ensures synced { OnOk result (IsTrue (D.seen self.new.state.disk).synced) }
     {
         sync_pages(&mut self.disk)
     }
@@ -219,7 +218,7 @@ impl<D: PageDisk> Desk<D> {
         requires places { self.old.state.config.first + length self.old.state.history
             + length (dirty self.old.state.history) + 1 < 2 ^ 48 }
         requires room { (n : ℕ) → n ≤ most → n ≤ length (dirty self.old.state.history) → n ≤ self.old.room }
-        requires tied { AreTied D.tells D.told D.space_pages (F.seen frames.old) self.old.state }
+        requires tied { AreTied D.seen (F.seen frames.old) self.old.state }
         requires alone { AreAlone (F.seen frames.old) }
         requires turn { HasTurn (F.seen frames.old) by }
         requires known { log_end self.old.state.history ≤ redo.old.seen.end }
@@ -234,20 +233,20 @@ impl<D: PageDisk> Desk<D> {
             × IsStop n most sync (dirty self.new.state.history) × (n ≡ 0 → IsForced self.old.state.disk self.new.state.disk ⊤ e)) }
         ensures upto { (mark : ℕ) × AreMarked redo.old.seen.durable redo.old.seen.end mark
             self.old.state.history self.new.state.history }
-        ensures fault { IfErr result (λ e. IsWriteFault (D.fault_count self.old.state.disk)
-            (D.fault_count self.new.state.disk) redo.old.seen.faults redo.new.seen.faults e) }
-        ensures desk { LeavesDesk D.page_size D.tells D.space_pages D.fault_count self.old.state self.new.state }
+        ensures fault { IfErr result (λ e. IsWriteFault (D.seen self.old.state.disk).faults
+            (D.seen self.new.state.disk).faults redo.old.seen.faults redo.new.seen.faults e) }
+        ensures desk { LeavesDesk D.seen self.old.state self.new.state }
         ensures rows { (F.seen frames.new).rows ≡ (F.seen frames.old).rows }
-        ensures tied { AreTied D.tells D.told D.space_pages (F.seen frames.new) self.new.state }
+        ensures tied { AreTied D.seen (F.seen frames.new) self.new.state }
         ensures turn { HasTurn (F.seen frames.new) by }
         ensures logged { IsLogged redo.old.seen self.old.state.history → IsLogged redo.new.seen self.new.state.history }
         ensures known { log_end self.new.state.history ≤ redo.new.seen.end }
         ensures later { IsLater redo.old.seen redo.new.seen }
         ensures opening { redo.new.opening ≡ redo.old.opening }
         ensures kept { IsKept redo.old.seen (R.told redo.old.disk) → IsKept redo.new.seen (R.told redo.new.disk) }
-        ensures behind { (o : Opened) → IsBehind D.tells D.told D.space_pages o self.old.state (F.seen frames.old)
-            → IsBehind D.tells D.told D.space_pages o self.new.state (F.seen frames.new) }
-        ensures synced { IsTrue sync → OnOk result (IsTrue (D.synced self.new.state.disk)) }
+        ensures behind { (o : Opened) → IsBehind D.seen o self.old.state (F.seen frames.old)
+            → IsBehind D.seen o self.new.state (F.seen frames.new) }
+        ensures synced { IsTrue sync → OnOk result (IsTrue (D.seen self.new.state.disk).synced) }
         ensures whole { IsTrue sync → OnOk result (redo.new.seen.durable ≡ redo.new.seen.end) }
     {
         let written = match self.write_back_all(frames, redo, by, most) {
@@ -291,36 +290,36 @@ impl<D: PageDisk> Desk<D> {
     ) -> Result<Cleaned, CleanErr>
         requires places { self.old.state.config.first + length self.old.state.history
             + length (dirty self.old.state.history) + 1 < 2 ^ 48 }
-        requires tied { AreTied D.tells D.told D.space_pages (F.seen frames.old) self.old.state }
+        requires tied { AreTied D.seen (F.seen frames.old) self.old.state }
         requires alone { AreAlone (F.seen frames.old) }
         requires turn { HasTurn (F.seen frames.old) by }
         requires known { log_end self.old.state.history ≤ redo.old.seen.end }
         ensures ok { IfOk result (λ c. (c.skipped ≡ []) × IsCleaned self.old.state self.new.state by bound c.written) }
         ensures refused { IfErr result (λ e. IsCleanRefusal self.old.state self.new.state by bound sync
-            (D.fault_count self.old.state.disk) (D.fault_count self.new.state.disk) redo.old.seen.faults redo.new.seen.faults e) }
+            (D.seen self.old.state.disk).faults (D.seen self.new.state.disk).faults redo.old.seen.faults redo.new.seen.faults e) }
         ensures upto { (mark : ℕ) × AreMarked redo.old.seen.durable redo.old.seen.end mark
             self.old.state.history self.new.state.history }
         ensures unmoved { (F.seen frames.new).rows ≡ (F.seen frames.old).rows }
         ensures unlogged { result ≡ Err CleanErr.OutOfMemory → redo.new ≡ redo.old }
         ensures unused { sync ≡ false → (bound ≡ 0) ⊎ (dirty self.old.state.history ≡ [])
             → (self.new.state.disk ≡ self.old.state.disk) × (redo.new ≡ redo.old) }
-        ensures tied { AreTied D.tells D.told D.space_pages (F.seen frames.new) self.new.state }
+        ensures tied { AreTied D.seen (F.seen frames.new) self.new.state }
         ensures logged { IsLogged redo.old.seen self.old.state.history → IsLogged redo.new.seen self.new.state.history }
         ensures known { log_end self.new.state.history ≤ redo.new.seen.end }
         ensures later { IsLater redo.old.seen redo.new.seen }
         ensures opening { redo.new.opening ≡ redo.old.opening }
         ensures kept { IsKept redo.old.seen (R.told redo.old.disk) → IsKept redo.new.seen (R.told redo.new.disk) }
-        ensures sizes { (D.page_size self.new.state.disk ≡ D.page_size self.old.state.disk)
-            × ((space : ℕ) → D.space_pages self.new.state.disk space ≡ D.space_pages self.old.state.disk space) }
-        ensures telling { D.tells self.new.state.disk ≡ D.tells self.old.state.disk }
+        ensures sizes { ((D.seen self.new.state.disk).size ≡ (D.seen self.old.state.disk).size)
+            × ((space : ℕ) → (D.seen self.new.state.disk).spaces space ≡ (D.seen self.old.state.disk).spaces space) }
+        ensures telling { (D.seen self.new.state.disk).tells ≡ (D.seen self.old.state.disk).tells }
         ensures count { (length self.new.state.history
             ≤ length self.old.state.history + length (dirty self.old.state.history) + 1)
             × (length (dirty self.old.state.history) ≤ length self.old.state.history) }
         ensures few { length (dirty self.old.state.history) ≤ self.old.state.config.frames }
-        ensures counted { D.fault_count self.old.state.disk ≤ D.fault_count self.new.state.disk }
-        ensures behind { (o : Opened) → IsBehind D.tells D.told D.space_pages o self.old.state (F.seen frames.old)
-            → IsBehind D.tells D.told D.space_pages o self.new.state (F.seen frames.new) }
-        ensures synced { IsTrue sync → OnOk result (IsTrue (D.synced self.new.state.disk)) }
+        ensures counted { (D.seen self.old.state.disk).faults ≤ (D.seen self.new.state.disk).faults }
+        ensures behind { (o : Opened) → IsBehind D.seen o self.old.state (F.seen frames.old)
+            → IsBehind D.seen o self.new.state (F.seen frames.new) }
+        ensures synced { IsTrue sync → OnOk result (IsTrue (D.seen self.new.state.disk).synced) }
         ensures whole { IsTrue sync → OnOk result (redo.new.seen.durable ≡ redo.new.seen.end) }
     {
         let alloc = self.lists.allocator();

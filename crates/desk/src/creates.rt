@@ -4,10 +4,10 @@ ghost use Rattle.page_ids.specs.Size.{page_bytes};
 ghost use Rattle.page_disk.specs.Disks.{pages_in, IsInside};
 ghost use Rattle.redo_mark.specs.Logs.{IsLater, IsKept};
 ghost use Rattle.redo_mark.specs.Records.{head_of};
-ghost use Rattle.trail.specs.Book.{book, next_frame};
+ghost use Rattle.trail.specs.Book.{book, frame_in_turn};
 ghost use Rattle.trail.specs.Dirt.{is_dirty, log_end};
 ghost use Rattle.trail.specs.History.{home};
-ghost use Rattle.trail.specs.Places.{mark};
+ghost use Rattle.trail.specs.Trails.{mark};
 ghost use Rattle.frame_words.specs.Rows.{laid_row};
 ghost use Rattle.frame_words.specs.Seen.{KeepsRoom, row_at, with_row};
 ghost use Rattle.desk.specs.Base.{Opened};
@@ -36,11 +36,11 @@ impl<D: PageDisk> Desk<D> {
     fn lay_blank<F: Frames>(&self, frames: &mut F, frame: u32, lsn: u64)
         requires below { frame < self.now.state.config.frames }
         requires vacant { IsVacant self.now.state.history frame }
-        requires tied { AreTied D.tells D.told D.space_pages (F.seen frames.old) self.now.state }
+        requires tied { AreTied D.seen (F.seen frames.old) self.now.state }
         ensures seen { F.seen frames.new ≡ with_row (F.seen frames.old) frame
             (laid_row (row_at (F.seen frames.old) frame) (blank_at (page_bytes self.now.state.config.page) lsn)) }
         ensures image { (row_at (F.seen frames.new) frame).image ≡ Some (Some (blank_at (page_bytes self.now.state.config.page) lsn)) }
-        ensures tied { AreTied D.tells D.told D.space_pages (F.seen frames.new) self.now.state }
+        ensures tied { AreTied D.seen (F.seen frames.new) self.now.state }
         ensures fixes { KeepsRoom (F.room frames.old) (F.room frames.new) }
     {
         let mut image = frames.lift(frame);
@@ -60,12 +60,12 @@ impl<D: PageDisk> Desk<D> {
     ) -> u64
         requires places { self.old.state.config.first + length self.old.state.history + 1 < 2 ^ 48 }
         requires room { 0 < self.old.room }
-        requires inside { IsInside (D.space_pages self.old.state.disk) page }
+        requires inside { IsInside (D.seen self.old.state.disk).spaces page }
         requires below { frame < self.old.state.config.frames }
         requires vacant { IsVacant self.old.state.history frame }
         requires absent { home self.old.state.history page ≡ None }
-        requires next { next_frame (book self.old.state.config self.old.state.history) ≡ Some frame }
-        requires tied { AreTied D.tells D.told D.space_pages (F.seen frames.old) self.old.state }
+        requires next { frame_in_turn (book self.old.state.config self.old.state.history) ≡ Some frame }
+        requires tied { AreTied D.seen (F.seen frames.old) self.old.state }
         requires caller { MayFix (F.seen frames.old) self.old.state by page }
         requires span { (log_end self.old.state.history ≤ span.start) × (span.end ≡ span.start + 21) }
         requires image { (row_at (F.seen frames.old) frame).image ≡ Some (Some (blank_at (page_bytes self.old.state.config.page) span.end)) }
@@ -105,26 +105,26 @@ impl<D: PageDisk> Desk<D> {
     ) -> Granted
         requires places { self.old.state.config.first + length self.old.state.history + 1 < 2 ^ 48 }
         requires room { 0 < self.old.room }
-        requires inside { IsInside (D.space_pages self.old.state.disk) page }
+        requires inside { IsInside (D.seen self.old.state.disk).spaces page }
         requires below { frame < self.old.state.config.frames }
         requires vacant { IsVacant self.old.state.history frame }
         requires absent { home self.old.state.history page ≡ None }
         requires clean { is_dirty self.old.state.history page ≡ false }
-        requires next { next_frame (book self.old.state.config self.old.state.history) ≡ Some frame }
+        requires next { frame_in_turn (book self.old.state.config self.old.state.history) ≡ Some frame }
         requires fix { 0 < F.room frames.old frame }
-        requires tied { AreTied D.tells D.told D.space_pages (F.seen frames.old) self.old.state }
+        requires tied { AreTied D.seen (F.seen frames.old) self.old.state }
         requires settled { AreSettled (F.seen frames.old).rows }
         requires caller { MayFix (F.seen frames.old) self.old.state by page }
         requires span { (log_end self.old.state.history ≤ span.start) × (span.end ≡ span.start + 21) }
         ensures made { IsMade self.old.state self.new.state (F.seen frames.old).rows (F.seen frames.new).rows by page now span.start result }
         ensures frame { result.frame ≡ frame }
         ensures room { self.old.room ≤ self.new.room + 1 }
-        ensures tied { AreTied D.tells D.told D.space_pages (F.seen frames.new) self.new.state }
+        ensures tied { AreTied D.seen (F.seen frames.new) self.new.state }
         ensures settled { AreSettled (F.seen frames.new).rows }
-        ensures left { LeavesDesk D.page_size D.tells D.space_pages D.fault_count self.old.state self.new.state }
+        ensures left { LeavesDesk D.seen self.old.state self.new.state }
         ensures behind { (o : Opened) → IfSome (F.seen frames.old).base (λ base. base ≡ o.base)
-            → IsBehind D.tells D.told D.space_pages o self.old.state (F.seen frames.old)
-            → IsBehind D.tells D.told D.space_pages o self.new.state (F.seen frames.new) }
+            → IsBehind D.seen o self.old.state (F.seen frames.old)
+            → IsBehind D.seen o self.new.state (F.seen frames.new) }
     {
         self.lay_blank(frames, frame, span.end);
         let place = self.show_made(frames, by, page, frame, now, span);
@@ -155,22 +155,22 @@ impl<D: PageDisk> Desk<D> {
     ) -> Result<Granted, CreateErr>
         requires places { self.old.state.config.first + length self.old.state.history + 3 < 2 ^ 48 }
         requires room { 3 ≤ self.old.room }
-        requires inside { IsInside (D.space_pages self.old.state.disk) page }
+        requires inside { IsInside (D.seen self.old.state.disk).spaces page }
         requires absent { home self.old.state.history page ≡ None }
         requires clean { is_dirty self.old.state.history page ≡ false }
-        requires tied { AreTied D.tells D.told D.space_pages (F.seen frames.old) self.old.state }
+        requires tied { AreTied D.seen (F.seen frames.old) self.old.state }
         requires settled { AreSettled (F.seen frames.old).rows }
         requires caller { MayFix (F.seen frames.old) self.old.state by page }
         requires fixes { (f : ℕ) → f < length (F.seen frames.old).rows → 0 < F.room frames.old f }
         requires known { log_end self.old.state.history ≤ redo.old.seen.end }
         ensures created { IfOk result (λ g. IsCreatedBy self.old.state self.new.state (F.seen frames.old).rows (F.seen frames.new).rows by page now
             redo.old.seen.end redo.new.seen.end g) }
-        ensures refused { IfErr result (λ e. (held : ℕ) → held < 64 → IsCreateRefusal D.space_pages D.fault_count self.old.state self.new.state
+        ensures refused { IfErr result (λ e. (held : ℕ) → held < 64 → IsCreateRefusal D.seen self.old.state self.new.state
             (F.seen frames.old).rows (F.seen frames.new).rows by held page now redo.old.seen.durable redo.old.seen.end redo.new.seen.end
             redo.old.seen.faults redo.new.seen.faults e) }
         ensures full { 2 ^ 63 < redo.old.seen.end + 21 → IsErr result }
         ensures unused { IfErr result (λ e. IsUnused redo.old redo.new e) }
-        ensures leaves { LeavesAll D.page_size D.tells D.told D.space_pages D.fault_count R.told self.old.state self.new.state
+        ensures leaves { LeavesAll D.seen R.told self.old.state self.new.state
             (F.seen frames.old) (F.seen frames.new) redo.old redo.new }
     {
         let alloc = self.lists.allocator();
@@ -204,7 +204,7 @@ impl<D: PageDisk> Desk<D> {
     ) -> Result<Granted, CreateErr>
         requires places { self.old.state.config.first + length self.old.state.history + 3 < 2 ^ 48 }
         requires entries { 3 ≤ self.old.room }
-        requires tied { AreTied D.tells D.told D.space_pages (F.seen frames.old) self.old.state }
+        requires tied { AreTied D.seen (F.seen frames.old) self.old.state }
         requires settled { AreSettled (F.seen frames.old).rows }
         requires turn { HasTurn (F.seen frames.old) by }
         requires own { IsOwn (F.seen frames.old) self.old.state page }
@@ -213,14 +213,14 @@ impl<D: PageDisk> Desk<D> {
         requires known { log_end self.old.state.history ≤ redo.old.seen.end }
         ensures created { IfOk result (λ g. IsCreatedBy self.old.state self.new.state (F.seen frames.old).rows (F.seen frames.new).rows by page now
             redo.old.seen.end redo.new.seen.end g) }
-        ensures inside { IfOk result (λ g. page.page < pages_in (D.space_pages self.old.state.disk) page.space) }
+        ensures inside { IfOk result (λ g. page.page < pages_in (D.seen self.old.state.disk).spaces page.space) }
         ensures few { OnOk result (held < 64) }
-        ensures refused { IfErr result (λ e. IsCreateRefusal D.space_pages D.fault_count self.old.state self.new.state
+        ensures refused { IfErr result (λ e. IsCreateRefusal D.seen self.old.state self.new.state
             (F.seen frames.old).rows (F.seen frames.new).rows by held page now redo.old.seen.durable redo.old.seen.end redo.new.seen.end
             redo.old.seen.faults redo.new.seen.faults e) }
         ensures full { 2 ^ 63 < redo.old.seen.end + 21 → IsErr result }
         ensures unused { IfErr result (λ e. IsUnused redo.old redo.new e) }
-        ensures leaves { LeavesAll D.page_size D.tells D.told D.space_pages D.fault_count R.told self.old.state self.new.state
+        ensures leaves { LeavesAll D.seen R.told self.old.state self.new.state
             (F.seen frames.old) (F.seen frames.new) redo.old redo.new }
     {
         let pages = self.pages(page.space);
@@ -260,7 +260,7 @@ impl<D: PageDisk> Desk<D> {
         now: u64,
     ) -> Result<Granted, CreateErr>
         requires places { self.old.state.config.first + length self.old.state.history + 3 < 2 ^ 48 }
-        requires tied { AreTied D.tells D.told D.space_pages (F.seen frames.old) self.old.state }
+        requires tied { AreTied D.seen (F.seen frames.old) self.old.state }
         requires settled { AreSettled (F.seen frames.old).rows }
         requires turn { HasTurn (F.seen frames.old) by }
         requires own { IsOwn (F.seen frames.old) self.old.state page }
@@ -269,19 +269,19 @@ impl<D: PageDisk> Desk<D> {
         requires known { log_end self.old.state.history ≤ redo.old.seen.end }
         ensures created { IfOk result (λ g. IsCreatedBy self.old.state self.new.state (F.seen frames.old).rows (F.seen frames.new).rows by page now
             redo.old.seen.end redo.new.seen.end g) }
-        ensures inside { IfOk result (λ g. page.page < pages_in (D.space_pages self.old.state.disk) page.space) }
+        ensures inside { IfOk result (λ g. page.page < pages_in (D.seen self.old.state.disk).spaces page.space) }
         ensures few { OnOk result (held < 64) }
-        ensures refused { IfErr result (λ e. IsCreateRefusal D.space_pages D.fault_count self.old.state self.new.state
+        ensures refused { IfErr result (λ e. IsCreateRefusal D.seen self.old.state self.new.state
             (F.seen frames.old).rows (F.seen frames.new).rows by held page now redo.old.seen.durable redo.old.seen.end redo.new.seen.end
             redo.old.seen.faults redo.new.seen.faults e) }
         ensures full { 2 ^ 63 < redo.old.seen.end + 21 → IsErr result }
         ensures covered { (redo.new.disk ≡ redo.old.disk) ⊎ MustCover self.old.state (F.seen frames.old).rows redo.old.seen.durable }
         ensures marks { IsMarkBehind redo.old.seen redo.new.seen.durable }
         ensures unused { IfErr result (λ e. IsUnused redo.old redo.new e) }
-        ensures tied { AreTied D.tells D.told D.space_pages (F.seen frames.new) self.new.state }
+        ensures tied { AreTied D.seen (F.seen frames.new) self.new.state }
         ensures settled { AreSettled (F.seen frames.new).rows }
         ensures grown { length self.new.state.history ≤ length self.old.state.history + 3 }
-        ensures left { LeavesDesk D.page_size D.tells D.space_pages D.fault_count self.old.state self.new.state }
+        ensures left { LeavesDesk D.seen self.old.state self.new.state }
         ensures logged { IsLogged redo.old.seen self.old.state.history → IsLogged redo.new.seen self.new.state.history }
         ensures known { log_end self.new.state.history ≤ redo.new.seen.end }
         ensures upto { AreUpTo redo.new.seen.durable self.old.state.history self.new.state.history }
@@ -289,8 +289,8 @@ impl<D: PageDisk> Desk<D> {
         ensures opening { redo.new.opening ≡ redo.old.opening }
         ensures kept { IsKept redo.old.seen (R.told redo.old.disk) → IsKept redo.new.seen (R.told redo.new.disk) }
         ensures behind { (o : Opened) → IfSome (F.seen frames.old).base (λ base. base ≡ o.base)
-            → IsBehind D.tells D.told D.space_pages o self.old.state (F.seen frames.old)
-            → IsBehind D.tells D.told D.space_pages o self.new.state (F.seen frames.new) }
+            → IsBehind D.seen o self.old.state (F.seen frames.old)
+            → IsBehind D.seen o self.new.state (F.seen frames.new) }
     {
         if self.reserve_create().is_err() {
             return Err(CreateErr::OutOfMemory);

@@ -4,7 +4,7 @@ ghost use Rattle.page_ids.specs.Size.{page_bytes};
 ghost use Rattle.page_ids.specs.Layout.{IsPage};
 ghost use Rattle.page_ids.specs.declared.ids.PageId.{PageId};
 ghost use Rattle.page_disk.specs.Disks.{IsInside};
-ghost use Rattle.trail.specs.Places.{mark};
+ghost use Rattle.trail.specs.Trails.{mark};
 ghost use Rattle.trail.specs.History.{home, value};
 ghost use Rattle.trail.specs.Dirt.{dirty};
 ghost use Rattle.trail.specs.declared.event.Entry.{Entry};
@@ -52,9 +52,9 @@ impl<D: PageDisk> Model for Desk<D> {
       room = s.lists.room;
     } };
 
-    ghost invariant = { λ s. (D.page_size s.disk ≡ page_bytes s.lists.config.page)
+    ghost invariant = { λ s. ((D.seen s.disk).size ≡ page_bytes s.lists.config.page)
         × (vec_len s.buffer ≡ page_bytes s.lists.config.page)
-        × AreInside (D.space_pages s.disk) s.lists.history };
+        × AreInside (D.seen s.disk).spaces s.lists.history };
 }
 
 impl<D: PageDisk> Desk<D> {
@@ -66,10 +66,10 @@ impl<D: PageDisk> Desk<D> {
         disk: D,
     ) -> Result<Desk<D>, (OutOfMemory, D)>
         requires start { IsOneChunk config.now }
-        requires size { D.page_size disk ≡ page_bytes config.now.page }
+        requires size { (D.seen disk).size ≡ page_bytes config.now.page }
         ensures fresh { IfOk result (λ desk. IsFresh desk.state config.now instance disk) }
-        ensures behind { IfOk result (λ desk. (o : Opened) (frames : FramesSeen) → IsOpening D.told D.space_pages o (D.page_size disk) disk
-            → IsBehind D.tells D.told D.space_pages o desk.state frames) }
+        ensures behind { IfOk result (λ desk. (o : Opened) (frames : FramesSeen) → IsOpening o (D.seen disk)
+            → IsBehind D.seen o desk.state frames) }
         ensures back { IfErr result (λ e. e.1 ≡ disk) }
     {
         match parts_of(alloc, config) {
@@ -87,7 +87,7 @@ impl<D: PageDisk> Desk<D> {
     pub fn blank_frames(&self, alloc: Global) -> Result<PlainFrames, OutOfMemory>
         requires start { IsOneChunk self.now.state.config }
         requires fresh { self.now.state.history ≡ [] }
-        ensures tied { IfOk result (λ frames. AreTied D.tells D.told D.space_pages (seen_of frames) self.now.state) }
+        ensures tied { IfOk result (λ frames. AreTied D.seen (seen_of frames) self.now.state) }
         ensures unfixed { IfOk result (λ frames. (f : ℕ) → f < length frames.rows → (row_at (seen_of frames) f).held ≡ Some 0) }
     {
         blank_chunk(alloc, self.lists.config())
@@ -107,9 +107,9 @@ impl<D: PageDisk> Desk<D> {
         requires room { 0 < self.old.room }
         requires may { MayCome (ledger_of self.old) kind }
         requires frames { MayAppend (F.seen frames.old) (next_entry self.old.state by kind) }
-        requires inside { (page : PageId) (frame : ℕ) → kind ≡ Kind.Load page frame → IsInside (D.space_pages self.old.state.disk) page }
+        requires inside { (page : PageId) (frame : ℕ) → kind ≡ Kind.Load page frame → IsInside (D.seen self.old.state.disk).spaces page }
         requires made { (page : PageId) (frame start end now : ℕ) → kind ≡ Kind.Create page frame start end now
-            → IsInside (D.space_pages self.old.state.disk) page }
+            → IsInside (D.seen self.old.state.disk).spaces page }
         ensures appended { IsAppended self.old.state self.new.state by kind }
         ensures seen { F.seen frames.new ≡ appended (F.seen frames.old) (next_entry self.old.state by kind) }
         ensures fixes { fixed_frame kind ≡ None → KeepsRoom (F.room frames.old) (F.room frames.new) }
@@ -197,7 +197,7 @@ pub fn dirty_pages_are_few()
 /// Where nothing is dirty, the disk has the pages' values: each told page inside its space is a page for its value, and is told as at the
 /// opening where it has none. A law.
 pub fn clean_disk_holds_the_values<D: PageDisk>()
-    ensures { (o : Opened) (desk : State D) (frames : FramesSeen) → IsBehind D.tells D.told D.space_pages o desk frames → dirty desk.history ≡ []
+    ensures { (o : Opened) (desk : State D) (frames : FramesSeen) → IsBehind D.seen o desk frames → dirty desk.history ≡ []
         → (p : PageId) → p.page < o.pages p.space
-        → IfSome (D.told desk.disk p) (λ bytes. MatchOption (value o.size o.base desk.history p) (o.told p ≡ Some bytes) (λ c. IsPage p bytes c)) }
+        → IfSome ((D.seen desk.disk).told p) (λ bytes. MatchOption (value o.size o.base desk.history p) (o.told p ≡ Some bytes) (λ c. IsPage p bytes c)) }
 {}

@@ -3,9 +3,9 @@ ghost use Rattle.std.specs.Prelude.{◌≡◌, ◌<◌, ◌≤◌, ◌+◌, ◌^
 ghost use Rattle.page_ids.specs.Content.{Content};
 ghost use Rattle.page_ids.specs.declared.layout.BadPage.{BadPage};
 ghost use Rattle.page_disk.specs.Disks.{pages_in, IsInside, IsSameDisk};
-ghost use Rattle.trail.specs.Places.{mark};
+ghost use Rattle.trail.specs.Trails.{mark};
 ghost use Rattle.trail.specs.History.{home, value};
-ghost use Rattle.trail.specs.Book.{book, next_frame};
+ghost use Rattle.trail.specs.Book.{book, frame_in_turn};
 ghost use Rattle.trail.specs.Dirt.{is_dirty, log_end};
 ghost use Rattle.redo_mark.specs.Logs.{IsLater, IsKept};
 ghost use Rattle.frame_words.specs.Rows.{published_row};
@@ -36,7 +36,7 @@ use trail::{Call, Cause, Kind};
 impl<D: PageDisk> Desk<D> {
     /// How many pages the space has, 0 where there is no such space.
     pub(crate) fn pages(&self, space: u32) -> u32
-        ensures { result ≡ pages_in (D.space_pages self.now.state.disk) space }
+        ensures { result ≡ pages_in (D.seen self.now.state.disk).spaces space }
     {
         self.disk.pages(space).unwrap_or(0)
     }
@@ -65,23 +65,23 @@ impl<D: PageDisk> Desk<D> {
         page: PageId,
         frame: u32,
     ) -> Result<(), ReadErr>
-        requires inside { IsInside (D.space_pages self.old.state.disk) page }
+        requires inside { IsInside (D.seen self.old.state.disk).spaces page }
         requires below { frame < self.old.state.config.frames }
         requires vacant { IsVacant self.old.state.history frame }
-        requires tied { AreTied D.tells D.told D.space_pages (F.seen frames.old) self.old.state }
-        ensures ok { OnOk result (IsRead (D.told self.old.state.disk page) (F.seen frames.old) (F.seen frames.new) page frame) }
+        requires tied { AreTied D.seen (F.seen frames.old) self.old.state }
+        ensures ok { OnOk result (IsRead ((D.seen self.old.state.disk).told page) (F.seen frames.old) (F.seen frames.new) page frame) }
         ensures err { OnErr result (F.seen frames.new ≡ F.seen frames.old) }
-        ensures refused { IfErr result (λ e. IsReadRefusal (D.told self.old.state.disk page)
-            (D.fault_count self.old.state.disk) (D.fault_count self.new.state.disk) page e) }
+        ensures refused { IfErr result (λ e. IsReadRefusal ((D.seen self.old.state.disk).told page)
+            (D.seen self.old.state.disk).faults (D.seen self.new.state.disk).faults page e) }
         ensures config { self.new.state.config ≡ self.old.state.config }
         ensures instance { self.new.state.instance ≡ self.old.state.instance }
         ensures history { self.new.state.history ≡ self.old.state.history }
         ensures room { self.new.room ≡ self.old.room }
         ensures fixes { KeepsRoom (F.room frames.old) (F.room frames.new) }
-        ensures tied { AreTied D.tells D.told D.space_pages (F.seen frames.new) self.new.state }
-        ensures disk { IsSameDisk D.page_size D.tells D.told D.space_pages D.fault_count self.old.state.disk self.new.state.disk }
-        ensures behind { (o : Opened) → IsBehind D.tells D.told D.space_pages o self.old.state (F.seen frames.old)
-            → IsBehind D.tells D.told D.space_pages o self.new.state (F.seen frames.new) }
+        ensures tied { AreTied D.seen (F.seen frames.new) self.new.state }
+        ensures disk { IsSameDisk (D.seen self.old.state.disk) (D.seen self.new.state.disk) }
+        ensures behind { (o : Opened) → IsBehind D.seen o self.old.state (F.seen frames.old)
+            → IsBehind D.seen o self.new.state (F.seen frames.new) }
     {
         let mut image = frames.lift(frame);
         let read = read_page(&mut self.disk, page, &mut self.buffer, &mut image);
@@ -93,26 +93,26 @@ impl<D: PageDisk> Desk<D> {
     fn take_in<F: Frames>(&mut self, frames: &mut F, by: Caller, page: PageId, frame: u32)
         requires places { self.old.state.config.first + length self.old.state.history + 1 < 2 ^ 48 }
         requires room { 0 < self.old.room }
-        requires inside { IsInside (D.space_pages self.old.state.disk) page }
+        requires inside { IsInside (D.seen self.old.state.disk).spaces page }
         requires below { frame < self.old.state.config.frames }
         requires vacant { IsVacant self.old.state.history frame }
         requires absent { home self.old.state.history page ≡ None }
         requires clean { is_dirty self.old.state.history page ≡ false }
-        requires next { next_frame (book self.old.state.config self.old.state.history) ≡ Some frame }
-        requires tied { AreTied D.tells D.told D.space_pages (F.seen frames.old) self.old.state }
+        requires next { frame_in_turn (book self.old.state.config self.old.state.history) ≡ Some frame }
+        requires tied { AreTied D.seen (F.seen frames.old) self.old.state }
         requires caller { MayFix (F.seen frames.old) self.old.state by page }
-        requires image { (content : Content) × IsInImage (D.told self.old.state.disk page) (F.seen frames.old) page frame content }
+        requires image { (content : Content) × IsInImage ((D.seen self.old.state.disk).told page) (F.seen frames.old) page frame content }
         ensures appended { IsAppended self.old.state self.new.state by (Kind.Load page frame) }
         ensures rows { (F.seen frames.new).rows ≡ slice_set (F.seen frames.old).rows frame
             (published_row (row_at (F.seen frames.old) frame) page (mark self.old.state.config.first self.old.state.history + 1)) }
         ensures room { self.old.room ≤ self.new.room + 1 }
         ensures fixes { KeepsRoom (F.room frames.old) (F.room frames.new) }
         ensures caller { MayFix (F.seen frames.new) self.new.state by page }
-        ensures tied { AreTied D.tells D.told D.space_pages (F.seen frames.new) self.new.state }
+        ensures tied { AreTied D.seen (F.seen frames.new) self.new.state }
         ensures disk { self.new.state.disk ≡ self.old.state.disk }
         ensures behind { (o : Opened) → IfSome (F.seen frames.old).base (λ base. base ≡ o.base)
-            → IsBehind D.tells D.told D.space_pages o self.old.state (F.seen frames.old)
-            → IsBehind D.tells D.told D.space_pages o self.new.state (F.seen frames.new) }
+            → IsBehind D.seen o self.old.state (F.seen frames.old)
+            → IsBehind D.seen o self.new.state (F.seen frames.new) }
     {
         let place = self.lists.mark() + 1;
         self.append(frames, by, Kind::Load { page, frame });
@@ -130,28 +130,28 @@ impl<D: PageDisk> Desk<D> {
     ) -> Result<(), FixErr>
         requires places { self.old.state.config.first + length self.old.state.history + 1 < 2 ^ 48 }
         requires room { 0 < self.old.room }
-        requires inside { IsInside (D.space_pages self.old.state.disk) page }
-        requires next { next_frame (book self.old.state.config self.old.state.history) ≡ Some frame }
+        requires inside { IsInside (D.seen self.old.state.disk).spaces page }
+        requires next { frame_in_turn (book self.old.state.config self.old.state.history) ≡ Some frame }
         requires below { frame < self.old.state.config.frames }
         requires vacant { IsVacant self.old.state.history frame }
         requires absent { home self.old.state.history page ≡ None }
         requires clean { is_dirty self.old.state.history page ≡ false }
-        requires tied { AreTied D.tells D.told D.space_pages (F.seen frames.old) self.old.state }
+        requires tied { AreTied D.seen (F.seen frames.old) self.old.state }
         requires settled { AreSettled (F.seen frames.old).rows }
         requires caller { MayFix (F.seen frames.old) self.old.state by page }
-        ensures ok { OnOk result (IsLoaded D.told self.old.state self.new.state (F.seen frames.old).rows (F.seen frames.new).rows by page frame) }
+        ensures ok { OnOk result (IsLoaded D.seen self.old.state self.new.state (F.seen frames.old).rows (F.seen frames.new).rows by page frame) }
         ensures room { OnOk result (self.old.room ≤ self.new.room + 1) }
         ensures fixes { OnOk result (KeepsRoom (F.room frames.old) (F.room frames.new)) }
         ensures caller { OnOk result (MayFix (F.seen frames.new) self.new.state by page) }
-        ensures refused { IfErr result (λ e. IsLoadRefusal D.told D.fault_count self.old.state self.new.state by page now e) }
+        ensures refused { IfErr result (λ e. IsLoadRefusal D.seen self.old.state self.new.state by page now e) }
         ensures unmoved { OnErr result ((F.seen frames.new).rows ≡ (F.seen frames.old).rows) }
-        ensures tied { AreTied D.tells D.told D.space_pages (F.seen frames.new) self.new.state }
+        ensures tied { AreTied D.seen (F.seen frames.new) self.new.state }
         ensures settled { AreSettled (F.seen frames.new).rows }
         ensures more { IsOneMore self.old.state.history self.new.state.history }
-        ensures left { LeavesDesk D.page_size D.tells D.space_pages D.fault_count self.old.state self.new.state }
+        ensures left { LeavesDesk D.seen self.old.state self.new.state }
         ensures behind { (o : Opened) → IfSome (F.seen frames.old).base (λ base. base ≡ o.base)
-            → IsBehind D.tells D.told D.space_pages o self.old.state (F.seen frames.old)
-            → IsBehind D.tells D.told D.space_pages o self.new.state (F.seen frames.new) }
+            → IsBehind D.seen o self.old.state (F.seen frames.old)
+            → IsBehind D.seen o self.new.state (F.seen frames.new) }
     {
         match self.read_in(frames, page, frame) {
             Ok(()) => {
@@ -182,17 +182,17 @@ impl<D: PageDisk> Desk<D> {
     )
         requires places { self.old.state.config.first + length self.old.state.history + 1 < 2 ^ 48 }
         requires room { 0 < self.old.room }
-        requires tied { AreTied D.tells D.told D.space_pages (F.seen frames.old) self.old.state }
+        requires tied { AreTied D.seen (F.seen frames.old) self.old.state }
         requires turn { HasTurn (F.seen frames.old) by }
         requires own { IsOwn (F.seen frames.old) self.old.state page }
         requires asked { AsksFor page call }
         requires may { MayRefuse (F.seen frames.old) call cause }
         ensures appended { IsRefused self.old.state self.new.state by call cause }
         ensures unmoved { (F.seen frames.new).rows ≡ (F.seen frames.old).rows }
-        ensures tied { AreTied D.tells D.told D.space_pages (F.seen frames.new) self.new.state }
+        ensures tied { AreTied D.seen (F.seen frames.new) self.new.state }
         ensures disk { self.new.state.disk ≡ self.old.state.disk }
-        ensures behind { (o : Opened) → IsBehind D.tells D.told D.space_pages o self.old.state (F.seen frames.old)
-            → IsBehind D.tells D.told D.space_pages o self.new.state (F.seen frames.new) }
+        ensures behind { (o : Opened) → IsBehind D.seen o self.old.state (F.seen frames.old)
+            → IsBehind D.seen o self.new.state (F.seen frames.new) }
     {
         self.append(frames, by, Kind::Refused { call, cause });
     }
@@ -211,17 +211,17 @@ impl<D: PageDisk> Desk<D> {
         requires resident { home self.old.state.history page ≡ Some frame }
         requires below { frame < self.old.state.config.frames }
         requires fix { 0 < F.room frames.old frame }
-        requires tied { AreTied D.tells D.told D.space_pages (F.seen frames.old) self.old.state }
+        requires tied { AreTied D.seen (F.seen frames.old) self.old.state }
         requires settled { AreSettled (F.seen frames.old).rows }
         requires caller { MayFix (F.seen frames.old) self.old.state by page }
         ensures hit { IsHit self.old.state self.new.state (F.seen frames.old).rows (F.seen frames.new).rows by page now result }
         ensures frame { result.frame ≡ frame }
-        ensures tied { AreTied D.tells D.told D.space_pages (F.seen frames.new) self.new.state }
+        ensures tied { AreTied D.seen (F.seen frames.new) self.new.state }
         ensures settled { AreSettled (F.seen frames.new).rows }
         ensures more { IsOneMore self.old.state.history self.new.state.history }
-        ensures left { LeavesDesk D.page_size D.tells D.space_pages D.fault_count self.old.state self.new.state }
-        ensures behind { (o : Opened) → IsBehind D.tells D.told D.space_pages o self.old.state (F.seen frames.old)
-            → IsBehind D.tells D.told D.space_pages o self.new.state (F.seen frames.new) }
+        ensures left { LeavesDesk D.seen self.old.state self.new.state }
+        ensures behind { (o : Opened) → IsBehind D.seen o self.old.state (F.seen frames.old)
+            → IsBehind D.seen o self.new.state (F.seen frames.new) }
     {
         let place = self.lists.mark() + 1;
         let clock = frames.visit(frame).clock();
@@ -253,31 +253,31 @@ impl<D: PageDisk> Desk<D> {
     ) -> Result<Granted, FixErr>
         requires places { self.old.state.config.first + length self.old.state.history + 4 < 2 ^ 48 }
         requires room { 4 ≤ self.old.room }
-        requires inside { IsInside (D.space_pages self.old.state.disk) page }
+        requires inside { IsInside (D.seen self.old.state.disk).spaces page }
         requires absent { home self.old.state.history page ≡ None }
         requires clean { is_dirty self.old.state.history page ≡ false }
-        requires tied { AreTied D.tells D.told D.space_pages (F.seen frames.old) self.old.state }
+        requires tied { AreTied D.seen (F.seen frames.old) self.old.state }
         requires settled { AreSettled (F.seen frames.old).rows }
         requires caller { MayFix (F.seen frames.old) self.old.state by page }
         requires fixes { (f : ℕ) → f < length (F.seen frames.old).rows → 0 < F.room frames.old f }
         requires known { log_end self.old.state.history ≤ redo.old.seen.end }
-        ensures granted { IfOk result (λ g. IsMiss D.told self.old.state self.new.state (F.seen frames.old).rows (F.seen frames.new).rows by page now g) }
-        ensures refused { IfErr result (λ e. (held : ℕ) → held < 64 → IsFixRefusal D.told D.space_pages D.fault_count self.old.state self.new.state
+        ensures granted { IfOk result (λ g. IsMiss D.seen self.old.state self.new.state (F.seen frames.old).rows (F.seen frames.new).rows by page now g) }
+        ensures refused { IfErr result (λ e. (held : ℕ) → held < 64 → IsFixRefusal D.seen self.old.state self.new.state
             (F.seen frames.old).rows (F.seen frames.new).rows by held page now redo.old.seen.durable redo.old.seen.faults redo.new.seen.faults e) }
-        ensures free { IsSome (next_frame (book self.old.state.config self.old.state.history)) → redo.new ≡ redo.old }
+        ensures free { IsSome (frame_in_turn (book self.old.state.config self.old.state.history)) → redo.new ≡ redo.old }
         ensures covered { (redo.new ≡ redo.old) ⊎ MustCover self.old.state (F.seen frames.old).rows redo.old.seen.durable }
         ensures unlogged { IfErr result (λ e. IsUnlogged redo.old redo.new e) }
-        ensures tied { AreTied D.tells D.told D.space_pages (F.seen frames.new) self.new.state }
+        ensures tied { AreTied D.seen (F.seen frames.new) self.new.state }
         ensures settled { AreSettled (F.seen frames.new).rows }
         ensures grown { length self.new.state.history ≤ length self.old.state.history + 4 }
-        ensures left { LeavesDesk D.page_size D.tells D.space_pages D.fault_count self.old.state self.new.state }
+        ensures left { LeavesDesk D.seen self.old.state self.new.state }
         ensures log { KeepsLog R.told redo.old redo.new self.old.state.history self.new.state.history }
         ensures behind { (o : Opened) → IfSome (F.seen frames.old).base (λ base. base ≡ o.base)
-            → IsBehind D.tells D.told D.space_pages o self.old.state (F.seen frames.old)
-            → IsBehind D.tells D.told D.space_pages o self.new.state (F.seen frames.new) }
-        ensures valued { (o : Opened) → IsBehind D.tells D.told D.space_pages o self.old.state (F.seen frames.old)
+            → IsBehind D.seen o self.old.state (F.seen frames.old)
+            → IsBehind D.seen o self.new.state (F.seen frames.new) }
+        ensures valued { (o : Opened) → IsBehind D.seen o self.old.state (F.seen frames.old)
             → IfOk result (λ g. IsSome (value o.size o.base self.old.state.history page)) }
-        ensures unsound { (o : Opened) (bad : BadPage) → IsBehind D.tells D.told D.space_pages o self.old.state (F.seen frames.old)
+        ensures unsound { (o : Opened) (bad : BadPage) → IsBehind D.seen o self.old.state (F.seen frames.old)
             → result ≡ Err (FixErr.BadPage bad) → value o.size o.base self.old.state.history page ≡ None }
     {
         let call = Call::Fix { page, now };
@@ -306,26 +306,26 @@ impl<D: PageDisk> Desk<D> {
         now: u64,
     ) -> Result<Granted, FixErr>
         requires places { self.old.state.config.first + length self.old.state.history + 4 < 2 ^ 48 }
-        requires tied { AreTied D.tells D.told D.space_pages (F.seen frames.old) self.old.state }
+        requires tied { AreTied D.seen (F.seen frames.old) self.old.state }
         requires settled { AreSettled (F.seen frames.old).rows }
         requires turn { HasTurn (F.seen frames.old) by }
         requires own { IsOwn (F.seen frames.old) self.old.state page }
         requires held { IfSome (F.seen frames.old).opened (λ opened. (length opened ≡ held) × (held ≤ 64)) }
         requires room { held < 64 → (f : ℕ) → f < length (F.seen frames.old).rows → 0 < F.room frames.old f }
         requires known { log_end self.old.state.history ≤ redo.old.seen.end }
-        ensures granted { IfOk result (λ g. IsGrantedBy D.told self.old.state self.new.state (F.seen frames.old).rows (F.seen frames.new).rows by page now g) }
-        ensures inside { IfOk result (λ g. page.page < pages_in (D.space_pages self.old.state.disk) page.space) }
+        ensures granted { IfOk result (λ g. IsGrantedBy D.seen self.old.state self.new.state (F.seen frames.old).rows (F.seen frames.new).rows by page now g) }
+        ensures inside { IfOk result (λ g. page.page < pages_in (D.seen self.old.state.disk).spaces page.space) }
         ensures few { OnOk result (held < 64) }
-        ensures refused { IfErr result (λ e. IsFixRefusal D.told D.space_pages D.fault_count self.old.state self.new.state
+        ensures refused { IfErr result (λ e. IsFixRefusal D.seen self.old.state self.new.state
             (F.seen frames.old).rows (F.seen frames.new).rows by held page now redo.old.seen.durable redo.old.seen.faults redo.new.seen.faults e) }
-        ensures unlogged { NeedsNoVictim D.space_pages self.old.state held page → redo.new ≡ redo.old }
+        ensures unlogged { NeedsNoVictim D.seen self.old.state held page → redo.new ≡ redo.old }
         ensures covered { (redo.new ≡ redo.old) ⊎ MustCover self.old.state (F.seen frames.old).rows redo.old.seen.durable }
         ensures marks { IsMarkBehind redo.old.seen redo.new.seen.durable }
         ensures unused { IfErr result (λ e. IsUnlogged redo.old redo.new e) }
-        ensures tied { AreTied D.tells D.told D.space_pages (F.seen frames.new) self.new.state }
+        ensures tied { AreTied D.seen (F.seen frames.new) self.new.state }
         ensures settled { AreSettled (F.seen frames.new).rows }
         ensures grown { length self.new.state.history ≤ length self.old.state.history + 4 }
-        ensures left { LeavesDesk D.page_size D.tells D.space_pages D.fault_count self.old.state self.new.state }
+        ensures left { LeavesDesk D.seen self.old.state self.new.state }
         ensures logged { IsLogged redo.old.seen self.old.state.history → IsLogged redo.new.seen self.new.state.history }
         ensures known { log_end self.new.state.history ≤ redo.new.seen.end }
         ensures upto { AreUpTo redo.new.seen.durable self.old.state.history self.new.state.history }
@@ -333,11 +333,11 @@ impl<D: PageDisk> Desk<D> {
         ensures opening { redo.new.opening ≡ redo.old.opening }
         ensures kept { IsKept redo.old.seen (R.told redo.old.disk) → IsKept redo.new.seen (R.told redo.new.disk) }
         ensures behind { (o : Opened) → IfSome (F.seen frames.old).base (λ base. base ≡ o.base)
-            → IsBehind D.tells D.told D.space_pages o self.old.state (F.seen frames.old)
-            → IsBehind D.tells D.told D.space_pages o self.new.state (F.seen frames.new) }
-        ensures valued { (o : Opened) → IsBehind D.tells D.told D.space_pages o self.old.state (F.seen frames.old)
+            → IsBehind D.seen o self.old.state (F.seen frames.old)
+            → IsBehind D.seen o self.new.state (F.seen frames.new) }
+        ensures valued { (o : Opened) → IsBehind D.seen o self.old.state (F.seen frames.old)
             → IfOk result (λ g. IsSome (value o.size o.base self.old.state.history page)) }
-        ensures unsound { (o : Opened) (bad : BadPage) → IsBehind D.tells D.told D.space_pages o self.old.state (F.seen frames.old)
+        ensures unsound { (o : Opened) (bad : BadPage) → IsBehind D.seen o self.old.state (F.seen frames.old)
             → result ≡ Err (FixErr.BadPage bad) → value o.size o.base self.old.state.history page ≡ None }
     {
         let pages = self.pages(page.space);

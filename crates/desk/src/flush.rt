@@ -53,14 +53,14 @@ fn write_image<D: PageDisk>(
     covered: &Covered,
     buffer: &mut Vec<u8>,
 ) -> Result<(), Fault>
-    requires inside { IsInside (D.space_pages disk.old) page }
-    requires image { length image.now.bytes ≡ D.page_size disk.old }
-    requires buffer { vec_len buffer.old ≡ D.page_size disk.old }
+    requires inside { IsInside (D.seen disk.old).spaces page }
+    requires image { length image.now.bytes ≡ (D.seen disk.old).size }
+    requires buffer { vec_len buffer.old ≡ (D.seen disk.old).size }
     requires covered { image.now.lsn ≤ covered.now }
-    ensures written { OnOk result (IsImageTold D.tells D.told page image.now disk.old disk.new) }
-    ensures failed { OnErr result (Fades (D.told disk.old page) (D.told disk.new page)) }
-    ensures others { IsOtherwiseSame D.page_size D.tells D.told D.space_pages D.fault_count page disk.old disk.new }
-    ensures fault { IfErr result (λ f. IsFault (D.fault_count disk.old) (D.fault_count disk.new) f.before f.after) }
+    ensures written { OnOk result (IsImageTold page image.now (D.seen disk.old) (D.seen disk.new)) }
+    ensures failed { OnErr result (Fades ((D.seen disk.old).told page) ((D.seen disk.new).told page)) }
+    ensures others { IsOtherwiseSame page (D.seen disk.old) (D.seen disk.new) }
+    ensures fault { IfErr result (λ f. IsFault (D.seen disk.old).faults (D.seen disk.new).faults f.before f.after) }
     ensures buffer { vec_len buffer.new ≡ vec_len buffer.old }
 {
     let before = disk.faults();
@@ -83,17 +83,17 @@ pub(crate) fn write_page<D: PageDisk, R: RedoDisk>(
     image: &Image,
     buffer: &mut Vec<u8>,
 ) -> Result<u64, WriteErr>
-    requires inside { IsInside (D.space_pages disk.old) page }
-    requires image { length image.now.bytes ≡ D.page_size disk.old }
-    requires buffer { vec_len buffer.old ≡ D.page_size disk.old }
+    requires inside { IsInside (D.seen disk.old).spaces page }
+    requires image { length image.now.bytes ≡ (D.seen disk.old).size }
+    requires buffer { vec_len buffer.old ≡ (D.seen disk.old).size }
     requires known { image.now.lsn ≤ redo.old.seen.end }
     ensures ok { IfOk result (λ upto. (image.now.lsn ≤ upto) × (upto ≡ redo.new.seen.durable)) }
     ensures mark { OnOk result (redo.new.seen.durable ≡ covered_to redo.old.seen.durable redo.old.seen.end image.now.lsn) }
     ensures end { redo.new.seen.end ≡ redo.old.seen.end }
-    ensures written { OnOk result (IsImageTold D.tells D.told page image.now disk.old disk.new) }
-    ensures failed { OnErr result (Fades (D.told disk.old page) (D.told disk.new page)) }
-    ensures others { IsOtherwiseSame D.page_size D.tells D.told D.space_pages D.fault_count page disk.old disk.new }
-    ensures fault { IfErr result (λ e. IsWriteFault (D.fault_count disk.old) (D.fault_count disk.new)
+    ensures written { OnOk result (IsImageTold page image.now (D.seen disk.old) (D.seen disk.new)) }
+    ensures failed { OnErr result (Fades ((D.seen disk.old).told page) ((D.seen disk.new).told page)) }
+    ensures others { IsOtherwiseSame page (D.seen disk.old) (D.seen disk.new) }
+    ensures fault { IfErr result (λ e. IsWriteFault (D.seen disk.old).faults (D.seen disk.new).faults
         redo.old.seen.faults redo.new.seen.faults e) }
     ensures idle { image.now.lsn ≤ redo.old.seen.durable → redo.new ≡ redo.old }
     ensures raised { redo.old.seen.durable < image.now.lsn → OnOk result (redo.new.seen.durable ≡ redo.old.seen.end) }
@@ -131,9 +131,9 @@ pub(crate) fn cover_all<R: RedoDisk>(redo: &mut Redo<R>) -> Result<(), WriteErr>
 
 /// Syncs the disk.
 pub(crate) fn sync_pages<D: PageDisk>(disk: &mut D) -> Result<(), WriteErr>
-    ensures same { IsSameDisk D.page_size D.tells D.told D.space_pages D.fault_count disk.old disk.new }
-    ensures synced { OnOk result (IsTrue (D.synced disk.new)) }
-    ensures fault { (first last : ℕ) → IfErr result (λ e. IsWriteFault (D.fault_count disk.old) (D.fault_count disk.new) first last e) }
+    ensures same { IsSameDisk (D.seen disk.old) (D.seen disk.new) }
+    ensures synced { OnOk result (IsTrue (D.seen disk.new).synced) }
+    ensures fault { (first last : ℕ) → IfErr result (λ e. IsWriteFault (D.seen disk.old).faults (D.seen disk.new).faults first last e) }
     ensures unlogged { IfErr result (λ e. IsForced disk.old disk.new ⊥ e) }
 {
     let before = disk.faults();

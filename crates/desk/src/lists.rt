@@ -2,9 +2,9 @@
 ghost use Rattle.std.specs.Prelude.{List, ℕ, ◌≡◌, ◌<◌, ◌≤◌, ◌+◌, ◌^◌, [], ◌∷◌, Some, None, OnOk, IfOk, IfSome, IsSome, length, reverse, true, false};
 ghost use Rattle.page_ids.specs.declared.ids.PageId.{PageId};
 ghost use Rattle.page_ids.specs.declared.frame_word.Word.{Word};
-ghost use Rattle.trail.specs.Places.{mark};
+ghost use Rattle.trail.specs.Trails.{mark};
 ghost use Rattle.trail.specs.History.{home};
-ghost use Rattle.trail.specs.Book.{book, next_frame, is_late};
+ghost use Rattle.trail.specs.Book.{book, frame_in_turn, is_late};
 ghost use Rattle.trail.specs.Dirt.{dirty, is_dirty, log_end};
 ghost use Rattle.trail.specs.Victim.{from_the_tail};
 ghost use Rattle.trail.specs.declared.event.Dirty.{Dirty};
@@ -135,7 +135,7 @@ impl Lists {
 
     /// The frame that the next page comes into: that of a victim, or else the first free one.
     pub(crate) fn next_frame(&self) -> Option<u32>
-        ensures next { result ≡ next_frame (book self.now.config self.now.history) }
+        ensures next { result ≡ frame_in_turn (book self.now.config self.now.history) }
         ensures below { IfSome result (λ f. f < self.now.config.frames) }
         ensures vacant { IfSome result (λ f. IsVacant self.now.history f) }
         ensures none { result ≡ None → (f : ℕ) → f < self.now.config.frames → (p : PageId) × (home self.now.history p ≡ Some f) }

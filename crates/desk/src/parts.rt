@@ -60,12 +60,12 @@ pub(crate) fn drafted(
 
 /// Reads the bytes of a page into the buffer.
 fn fill<D: PageDisk>(disk: &mut D, page: PageId, buffer: &mut Vec<u8>) -> Result<(), Failed>
-    requires inside { IsInside (D.space_pages disk.old) page }
-    requires buffer { vec_len buffer.old ≡ D.page_size disk.old }
-    ensures bytes { OnOk result (IfSome (D.told disk.old page) (λ bytes. buffer.new.items ≡ bytes)) }
+    requires inside { IsInside (D.seen disk.old).spaces page }
+    requires buffer { vec_len buffer.old ≡ (D.seen disk.old).size }
+    ensures bytes { OnOk result (IfSome ((D.seen disk.old).told page) (λ bytes. buffer.new.items ≡ bytes)) }
     ensures buffer { vec_len buffer.new ≡ vec_len buffer.old }
-    ensures disk { IsSameDisk D.page_size D.tells D.told D.space_pages D.fault_count disk.old disk.new }
-    ensures cause { IsCounted (D.fault_count disk.old) (D.fault_count disk.new) result }
+    ensures disk { IsSameDisk (D.seen disk.old) (D.seen disk.new) }
+    ensures cause { IsCounted (D.seen disk.old).faults (D.seen disk.new).faults result }
 {
     disk.read(page, buffer.as_mut_slice())
 }
@@ -77,15 +77,15 @@ pub(crate) fn read_page<D: PageDisk>(
     buffer: &mut Vec<u8>,
     image: &mut Image,
 ) -> Result<(), ReadErr>
-    requires inside { IsInside (D.space_pages disk.old) page }
-    requires buffer { vec_len buffer.old ≡ D.page_size disk.old }
-    requires image { length image.old.bytes ≡ D.page_size disk.old }
-    ensures read { OnOk result (IfSome (D.told disk.old page) (λ bytes. IsPage page bytes image.new)) }
+    requires inside { IsInside (D.seen disk.old).spaces page }
+    requires buffer { vec_len buffer.old ≡ (D.seen disk.old).size }
+    requires image { length image.old.bytes ≡ (D.seen disk.old).size }
+    ensures read { OnOk result (IfSome ((D.seen disk.old).told page) (λ bytes. IsPage page bytes image.new)) }
     ensures kept { OnErr result (image.new ≡ image.old) }
-    ensures refused { IfErr result (λ e. IsReadRefusal (D.told disk.old page) (D.fault_count disk.old) (D.fault_count disk.new) page e) }
+    ensures refused { IfErr result (λ e. IsReadRefusal ((D.seen disk.old).told page) (D.seen disk.old).faults (D.seen disk.new).faults page e) }
     ensures image { length image.new.bytes ≡ length image.old.bytes }
     ensures buffer { vec_len buffer.new ≡ vec_len buffer.old }
-    ensures disk { IsSameDisk D.page_size D.tells D.told D.space_pages D.fault_count disk.old disk.new }
+    ensures disk { IsSameDisk (D.seen disk.old) (D.seen disk.new) }
 {
     let before = disk.faults();
     if fill(disk, page, buffer).is_err() {

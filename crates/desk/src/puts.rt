@@ -1,9 +1,10 @@
 //! The put: bytes of a resident page are changed, and the change is logged first.
 ghost use Rattle.std.specs.Prelude.{◌≡◌, ◌<◌, ◌≤◌, ◌+◌, ◌^◌, OnOk, OnErr, IfOk, IfErr, IfSome, IsSome, IsErr, length};
+ghost use Rattle.page_ids.specs.Content.{IsRange};
 ghost use Rattle.page_ids.specs.Size.{page_bytes};
-ghost use Rattle.trail.specs.Places.{mark};
+ghost use Rattle.trail.specs.Trails.{mark};
 ghost use Rattle.trail.specs.History.{home, change};
-ghost use Rattle.trail.specs.Calls.{newest_of};
+ghost use Rattle.trail.specs.Calls.{newest_fix};
 ghost use Rattle.trail.specs.Dirt.{log_end};
 ghost use Rattle.redo_mark.specs.Logs.{IsLater};
 ghost use Rattle.frame_words.specs.Conditions.{IsLatched, MayLay};
@@ -11,7 +12,7 @@ ghost use Rattle.frame_words.specs.Rows.{laid_row, stamped_row, unlatched_row};
 ghost use Rattle.frame_words.specs.Seen.{row_at, with_row};
 ghost use Rattle.desk.specs.Base.{Opened};
 ghost use Rattle.desk.specs.Behind.{IsBehind};
-ghost use Rattle.desk.specs.Changes.{IsBody, IsPutBy, IsPutRefusal};
+ghost use Rattle.desk.specs.Changes.{IsPutBy, IsPutRefusal};
 ghost use Rattle.desk.specs.Logged.{IsLogged};
 ghost use Rattle.desk.specs.Tied.{AreTied, AreAlone, HasTurn, IsOwn};
 
@@ -57,19 +58,19 @@ impl<D: PageDisk> Desk<D> {
     ) -> PutDone
         requires places { self.old.state.config.first + length self.old.state.history + 1 < 2 ^ 48 }
         requires room { 0 < self.old.room }
-        requires tied { AreTied D.tells D.told D.space_pages (F.seen frames.old) self.old.state }
+        requires tied { AreTied D.seen (F.seen frames.old) self.old.state }
         requires alone { AreAlone (F.seen frames.old) }
         requires turn { HasTurn (F.seen frames.old) by }
         requires own { IsOwn (F.seen frames.old) self.old.state page }
-        requires open { IfSome (F.seen frames.old).opened (λ opened. IsSome (newest_of opened page)) }
+        requires open { IfSome (F.seen frames.old).opened (λ opened. IsSome (newest_fix opened page)) }
         requires resident { IsSome (home self.old.state.history page) }
-        requires range { IsBody (page_bytes self.old.state.config.page) at (length bytes) }
+        requires range { IsRange (page_bytes self.old.state.config.page) at (length bytes) }
         requires span { (log_end self.old.state.history ≤ span.start) × (span.end ≡ span.start + 21 + length bytes) }
         ensures done { IsPutBy self.old.state self.new.state (F.seen frames.old).rows (F.seen frames.new).rows by page at bytes result }
         ensures lsn { result.lsn ≡ span.end }
-        ensures tied { AreTied D.tells D.told D.space_pages (F.seen frames.new) self.new.state }
-        ensures behind { (o : Opened) → IsBehind D.tells D.told D.space_pages o self.old.state (F.seen frames.old)
-            → IsBehind D.tells D.told D.space_pages o self.new.state (F.seen frames.new) }
+        ensures tied { AreTied D.seen (F.seen frames.new) self.new.state }
+        ensures behind { (o : Opened) → IsBehind D.seen o self.old.state (F.seen frames.old)
+            → IsBehind D.seen o self.new.state (F.seen frames.new) }
     {
         let place = self.next_place();
         let frame = self.frame_of(page);
@@ -107,13 +108,13 @@ impl<D: PageDisk> Desk<D> {
         bytes: &[u8],
     ) -> Result<PutDone, PutErr>
         requires places { self.old.state.config.first + length self.old.state.history + 1 < 2 ^ 48 }
-        requires tied { AreTied D.tells D.told D.space_pages (F.seen frames.old) self.old.state }
+        requires tied { AreTied D.seen (F.seen frames.old) self.old.state }
         requires alone { AreAlone (F.seen frames.old) }
         requires turn { HasTurn (F.seen frames.old) by }
         requires own { IsOwn (F.seen frames.old) self.old.state page }
-        requires open { IfSome (F.seen frames.old).opened (λ opened. IsSome (newest_of opened page)) }
+        requires open { IfSome (F.seen frames.old).opened (λ opened. IsSome (newest_fix opened page)) }
         requires resident { IsSome (home self.old.state.history page) }
-        requires range { IsBody (page_bytes self.old.state.config.page) at (length bytes.now) }
+        requires range { IsRange (page_bytes self.old.state.config.page) at (length bytes.now) }
         requires known { log_end self.old.state.history ≤ redo.old.seen.end }
         ensures done { IfOk result (λ d. IsPutBy self.old.state self.new.state (F.seen frames.old).rows (F.seen frames.new).rows by page at bytes.now d) }
         ensures span { IfOk result (λ d. (redo.old.seen.end + 21 + length bytes.now ≤ d.lsn) × (d.lsn ≤ redo.new.seen.end)) }
@@ -121,14 +122,14 @@ impl<D: PageDisk> Desk<D> {
             redo.old.seen.end redo.new.seen.end e) }
         ensures unmoved { OnErr result ((F.seen frames.new).rows ≡ (F.seen frames.old).rows) }
         ensures full { 2 ^ 63 < redo.old.seen.end + 21 + length bytes.now → IsErr result }
-        ensures tied { AreTied D.tells D.told D.space_pages (F.seen frames.new) self.new.state }
+        ensures tied { AreTied D.seen (F.seen frames.new) self.new.state }
         ensures logged { IsLogged redo.old.seen self.old.state.history → IsLogged redo.new.seen self.new.state.history }
         ensures known { log_end self.new.state.history ≤ redo.new.seen.end }
         ensures later { IsLater redo.old.seen redo.new.seen }
         ensures log { (redo.new.disk ≡ redo.old.disk) × (redo.new.opening ≡ redo.old.opening) }
         ensures unlogged { OnErr result (redo.new ≡ redo.old) }
-        ensures behind { (o : Opened) → IsBehind D.tells D.told D.space_pages o self.old.state (F.seen frames.old)
-            → IsBehind D.tells D.told D.space_pages o self.new.state (F.seen frames.new) }
+        ensures behind { (o : Opened) → IsBehind D.seen o self.old.state (F.seen frames.old)
+            → IsBehind D.seen o self.new.state (F.seen frames.new) }
     {
         let alloc = self.lists.allocator();
         if self.room_for_put().is_err() {

@@ -8,7 +8,7 @@ ghost use Rattle.page_ids.specs.declared.ids.PageId.{PageId};
 ghost use Rattle.page_disk.specs.Disks.{IsOtherwiseSame, Fades};
 ghost use Rattle.redo_mark.specs.Logs.{Seen};
 ghost use Rattle.trail.specs.History.{home};
-ghost use Rattle.trail.specs.Book.{book, next_frame};
+ghost use Rattle.trail.specs.Book.{book, frame_in_turn};
 ghost use Rattle.trail.specs.Dirt.{dirty, dirt_of, is_dirty, log_end};
 ghost use Rattle.trail.specs.Victim.{walk};
 ghost use Rattle.trail.specs.declared.event.Dirty.{Dirty};
@@ -53,7 +53,7 @@ impl<D: PageDisk> Desk<D> {
         frame: u32,
         soiled: bool,
     ) -> Result<Option<Victim>, OutOfMemory>
-        requires tied { AreTied D.tells D.told D.space_pages (F.seen frames.old) self.now.state }
+        requires tied { AreTied D.seen (F.seen frames.old) self.now.state }
         requires housed { (p : PageId) × (home self.now.state.history p ≡ Some frame) }
         requires below { frame < self.now.state.config.frames }
         requires alone { (p q : PageId) → home self.now.state.history p ≡ Some frame → home self.now.state.history q ≡ Some frame → q ≡ p }
@@ -87,7 +87,7 @@ impl<D: PageDisk> Desk<D> {
         passed: &mut Vec<(u32, Word)>,
         soiled: bool,
     ) -> Result<Option<Victim>, OutOfMemory>
-        requires tied { AreTied D.tells D.told D.space_pages (F.seen frames.old) self.now.state }
+        requires tied { AreTied D.seen (F.seen frames.old) self.now.state }
         requires orderly { AreOrderly self.now.state.config self.now.state.history }
         ensures looked { MatchResult result (λ found. IfNone found (HasLooked (F.seen frames.old) (F.seen frames.new)))
             (λ _. HasLooked (F.seen frames.old) (F.seen frames.new)) }
@@ -121,7 +121,7 @@ impl<D: PageDisk> Desk<D> {
         frames: &mut F,
         passed: &mut Vec<(u32, Word)>,
     ) -> Result<Option<Victim>, OutOfMemory>
-        requires tied { AreTied D.tells D.told D.space_pages (F.seen frames.old) self.now.state }
+        requires tied { AreTied D.seen (F.seen frames.old) self.now.state }
         requires orderly { AreOrderly self.now.state.config self.now.state.history }
         requires empty { passed.old.items ≡ [] }
         ensures looked { MatchResult result (λ found. IfNone found (HasLooked (F.seen frames.old) (F.seen frames.new)))
@@ -149,7 +149,7 @@ impl<D: PageDisk> Desk<D> {
         redo: &mut Redo<R>,
         victim: Victim,
     ) -> Result<(u64, u64), WriteErr>
-        requires but { AreTiedBut D.tells D.told D.space_pages (F.seen frames.old) self.old.state victim.page victim.frame }
+        requires but { AreTiedBut D.seen (F.seen frames.old) self.old.state victim.page victim.frame }
         requires dirty { is_dirty self.old.state.history victim.page ≡ true }
         requires logged { (d : Dirty) → dirt_of (dirty self.old.state.history) victim.page ≡ Some d → d.newest ≤ redo.old.seen.end }
         ensures seen { F.seen frames.new ≡ F.seen frames.old }
@@ -158,10 +158,10 @@ impl<D: PageDisk> Desk<D> {
         ensures lsn { IfOk result (λ w. (d : Dirty) × (dirt_of (dirty self.old.state.history) victim.page ≡ Some d)
             × (w.0 ≡ d.newest) × (d.newest ≤ w.1) × (w.1 ≡ redo.new.seen.durable)) }
         ensures written { OnOk result ((content : Content) → (row_at (F.seen frames.old) victim.frame).image ≡ Some (Some content)
-            → IsImageTold D.tells D.told victim.page content self.old.state.disk self.new.state.disk) }
-        ensures failed { OnErr result (Fades (D.told self.old.state.disk victim.page) (D.told self.new.state.disk victim.page)) }
-        ensures others { IsOtherwiseSame D.page_size D.tells D.told D.space_pages D.fault_count victim.page self.old.state.disk self.new.state.disk }
-        ensures fault { IfErr result (λ e. IsWriteFault (D.fault_count self.old.state.disk) (D.fault_count self.new.state.disk)
+            → IsImageTold victim.page content (D.seen self.old.state.disk) (D.seen self.new.state.disk)) }
+        ensures failed { OnErr result (Fades ((D.seen self.old.state.disk).told victim.page) ((D.seen self.new.state.disk).told victim.page)) }
+        ensures others { IsOtherwiseSame victim.page (D.seen self.old.state.disk) (D.seen self.new.state.disk) }
+        ensures fault { IfErr result (λ e. IsWriteFault (D.seen self.old.state.disk).faults (D.seen self.new.state.disk).faults
             redo.old.seen.faults redo.new.seen.faults e) }
         ensures covered { (redo.new ≡ redo.old) ⊎ IsAhead self.old.state.history victim.page redo.old.seen.durable }
         ensures forced { IfErr result (λ e. IsForced self.old.state.disk self.new.state.disk
@@ -189,7 +189,7 @@ impl<D: PageDisk> Desk<D> {
     ) -> Result<(), WriteErr>
         requires places { self.old.state.config.first + length self.old.state.history + 1 < 2 ^ 48 }
         requires room { 0 < self.old.room }
-        requires but { AreTiedBut D.tells D.told D.space_pages (F.seen frames.old) self.old.state victim.page victim.frame }
+        requires but { AreTiedBut D.seen (F.seen frames.old) self.old.state victim.page victim.frame }
         requires turn { HasTurn (F.seen frames.old) by }
         requires logged { (d : Dirty) → dirt_of (dirty self.old.state.history) victim.page ≡ Some d → d.newest ≤ redo.old.seen.end }
         ensures cleaned { OnOk result (IsCleanedFirst self.old.state.config.first by victim.page self.old.state.history self.new.state.history) }
@@ -200,21 +200,21 @@ impl<D: PageDisk> Desk<D> {
         ensures covered { (redo.new ≡ redo.old) ⊎ IsAhead self.old.state.history victim.page redo.old.seen.durable }
         ensures forced { IfErr result (λ e. IsForced self.old.state.disk self.new.state.disk
             (IsAhead self.old.state.history victim.page redo.old.seen.durable) e) }
-        ensures fault { IfErr result (λ e. IsWriteFault (D.fault_count self.old.state.disk) (D.fault_count self.new.state.disk)
+        ensures fault { IfErr result (λ e. IsWriteFault (D.seen self.old.state.disk).faults (D.seen self.new.state.disk).faults
             redo.old.seen.faults redo.new.seen.faults e) }
-        ensures but { AreTiedBut D.tells D.told D.space_pages (F.seen frames.new) self.new.state victim.page victim.frame }
+        ensures but { AreTiedBut D.seen (F.seen frames.new) self.new.state victim.page victim.frame }
         ensures rows { (F.seen frames.new).rows ≡ (F.seen frames.old).rows }
         ensures found { (F.seen frames.new).found ≡ (F.seen frames.old).found }
         ensures turn { LeavesTurn (F.seen frames.old) (F.seen frames.new) }
         ensures room { self.old.room ≤ self.new.room + 1 }
-        ensures desk { LeavesDesk D.page_size D.tells D.space_pages D.fault_count self.old.state self.new.state }
-        ensures others { (q : PageId) → same_page victim.page q ≡ false → D.told self.new.state.disk q ≡ D.told self.old.state.disk q }
+        ensures desk { LeavesDesk D.seen self.old.state self.new.state }
+        ensures others { (q : PageId) → same_page victim.page q ≡ false → (D.seen self.new.state.disk).told q ≡ (D.seen self.old.state.disk).told q }
         ensures log { KeepsLog R.told redo.old redo.new self.old.state.history self.new.state.history }
         ensures fixes { KeepsRoom (F.room frames.old) (F.room frames.new) }
-        ensures behind { (o : Opened) → IsBehind D.tells D.told D.space_pages o self.old.state (F.seen frames.old)
-            → IsBehind D.tells D.told D.space_pages o self.new.state (F.seen frames.new) }
-        ensures stands { OnErr result ((o : Opened) (s : FramesSeen) → IsBehind D.tells D.told D.space_pages o self.old.state s
-            → IsBehind D.tells D.told D.space_pages o self.new.state s) }
+        ensures behind { (o : Opened) → IsBehind D.seen o self.old.state (F.seen frames.old)
+            → IsBehind D.seen o self.new.state (F.seen frames.new) }
+        ensures stands { OnErr result ((o : Opened) (s : FramesSeen) → IsBehind D.seen o self.old.state s
+            → IsBehind D.seen o self.new.state s) }
     {
         let page = victim.page;
         let soiled = self.lists.is_dirty(page);
@@ -234,21 +234,21 @@ impl<D: PageDisk> Desk<D> {
     fn let_go<F: Frames>(&mut self, frames: &mut F, by: Caller, victim: Victim, passed: Words)
         requires places { self.old.state.config.first + length self.old.state.history + 1 < 2 ^ 48 }
         requires room { 0 < self.old.room }
-        requires but { AreTiedBut D.tells D.told D.space_pages (F.seen frames.old) self.old.state victim.page victim.frame }
+        requires but { AreTiedBut D.seen (F.seen frames.old) self.old.state victim.page victim.frame }
         requires clean { is_dirty self.old.state.history victim.page ≡ false }
         requires turn { HasTurn (F.seen frames.old) by }
         requires found { IfSome (F.seen frames.old).found (λ now. AreFound now passed) }
         ensures appended { IsAppended self.old.state self.new.state by (Kind.Evict victim.page victim.frame passed) }
         ensures disk { self.new.state.disk ≡ self.old.state.disk }
         ensures rows { (F.seen frames.new).rows ≡ (F.seen frames.old).rows }
-        ensures next { next_frame (book self.new.state.config self.new.state.history) ≡ Some victim.frame }
+        ensures next { frame_in_turn (book self.new.state.config self.new.state.history) ≡ Some victim.frame }
         ensures vacant { IsVacant self.new.state.history victim.frame }
         ensures turn { LeavesTurn (F.seen frames.old) (F.seen frames.new) }
         ensures room { self.old.room ≤ self.new.room + 1 }
-        ensures tied { AreTied D.tells D.told D.space_pages (F.seen frames.new) self.new.state }
+        ensures tied { AreTied D.seen (F.seen frames.new) self.new.state }
         ensures fixes { KeepsRoom (F.room frames.old) (F.room frames.new) }
-        ensures behind { (o : Opened) → IsBehind D.tells D.told D.space_pages o self.old.state (F.seen frames.old)
-            → IsBehind D.tells D.told D.space_pages o self.new.state (F.seen frames.new) }
+        ensures behind { (o : Opened) → IsBehind D.seen o self.old.state (F.seen frames.old)
+            → IsBehind D.seen o self.new.state (F.seen frames.new) }
     {
         let Victim { page, frame, .. } = victim;
         self.append(
@@ -274,7 +274,7 @@ impl<D: PageDisk> Desk<D> {
     ) -> FrameErr
         requires places { self.old.state.config.first + length self.old.state.history + 1 < 2 ^ 48 }
         requires room { 0 < self.old.room }
-        requires but { AreTiedBut D.tells D.told D.space_pages (F.seen frames.old) self.old.state victim.page victim.frame }
+        requires but { AreTiedBut D.seen (F.seen frames.old) self.old.state victim.page victim.frame }
         requires clock { (victim.clock ≡ (row_at (F.seen frames.old) victim.frame).clock) × (victim.clock < 2 ^ 48) }
         requires turn { HasTurn (F.seen frames.old) by }
         requires own { IsOwn (F.seen frames.old) self.old.state page }
@@ -286,10 +286,10 @@ impl<D: PageDisk> Desk<D> {
         ensures rows { (F.seen frames.new).rows ≡ slice_set (F.seen frames.old).rows victim.frame
             (published_row (row_at (F.seen frames.old) victim.frame) victim.page victim.clock) }
         ensures base { (F.seen frames.new).base ≡ (F.seen frames.old).base }
-        ensures tied { AreTied D.tells D.told D.space_pages (F.seen frames.new) self.new.state }
+        ensures tied { AreTied D.seen (F.seen frames.new) self.new.state }
         ensures fixes { KeepsRoom (F.room frames.old) (F.room frames.new) }
-        ensures stands { (o : Opened) (s : FramesSeen) → IsBehind D.tells D.told D.space_pages o self.old.state s
-            → IsBehind D.tells D.told D.space_pages o self.new.state s }
+        ensures stands { (o : Opened) (s : FramesSeen) → IsBehind D.seen o self.old.state s
+            → IsBehind D.seen o self.new.state s }
     {
         let (cause, refusal) = causes_of(error);
         frames.publish(victim.frame, victim.page, victim.clock);
@@ -308,13 +308,13 @@ impl<D: PageDisk> Desk<D> {
     ) -> FrameErr
         requires places { self.old.state.config.first + length self.old.state.history + 1 < 2 ^ 48 }
         requires room { 0 < self.old.room }
-        requires tied { AreTied D.tells D.told D.space_pages (F.seen frames.old) self.old.state }
+        requires tied { AreTied D.seen (F.seen frames.old) self.old.state }
         requires turn { HasTurn (F.seen frames.old) by }
         requires own { IsOwn (F.seen frames.old) self.old.state page }
         requires asked { AsksFor page call }
         requires few { IfSome (F.seen frames.old).opened (λ opened. length opened < 64) }
         requires orderly { AreOrderly self.old.state.config self.old.state.history }
-        requires none_free { next_frame (book self.old.state.config self.old.state.history) ≡ None }
+        requires none_free { frame_in_turn (book self.old.state.config self.old.state.history) ≡ None }
         requires full { (f : ℕ) → f < self.old.state.config.frames → (p : PageId) × (home self.old.state.history p ≡ Some f) }
         requires absent { home self.old.state.history page ≡ None }
         requires passed { ArePassedBy self.old.state.history (F.seen frames.old).rows (F.seen frames.old).found
@@ -328,11 +328,11 @@ impl<D: PageDisk> Desk<D> {
         ensures logged { (log : Seen) → IsLogged log self.old.state.history → IsLogged log self.new.state.history }
         ensures ends { log_end self.new.state.history ≡ log_end self.old.state.history }
         ensures upto { (mark : ℕ) (h : List Entry) → AreUpTo mark h self.old.state.history → AreUpTo mark h self.new.state.history }
-        ensures tied { AreTied D.tells D.told D.space_pages (F.seen frames.new) self.new.state }
-        ensures desk { LeavesDesk D.page_size D.tells D.space_pages D.fault_count self.old.state self.new.state }
+        ensures tied { AreTied D.seen (F.seen frames.new) self.new.state }
+        ensures desk { LeavesDesk D.seen self.old.state self.new.state }
         ensures fixes { KeepsRoom (F.room frames.old) (F.room frames.new) }
-        ensures behind { (o : Opened) → IsBehind D.tells D.told D.space_pages o self.old.state (F.seen frames.old)
-            → IsBehind D.tells D.told D.space_pages o self.new.state (F.seen frames.new) }
+        ensures behind { (o : Opened) → IsBehind D.seen o self.old.state (F.seen frames.old)
+            → IsBehind D.seen o self.new.state (F.seen frames.new) }
     {
         let alloc = self.lists.allocator();
         let words = in_order(passed);
@@ -357,7 +357,7 @@ impl<D: PageDisk> Desk<D> {
     ) -> Result<u32, FrameErr>
         requires places { self.old.state.config.first + length self.old.state.history + 2 < 2 ^ 48 }
         requires room { 2 ≤ self.old.room }
-        requires tied { AreTied D.tells D.told D.space_pages (F.seen frames.old) self.old.state }
+        requires tied { AreTied D.seen (F.seen frames.old) self.old.state }
         requires settled { AreSettled (F.seen frames.old).rows }
         requires turn { HasTurn (F.seen frames.old) by }
         requires own { IsOwn (F.seen frames.old) self.old.state page }
@@ -366,14 +366,14 @@ impl<D: PageDisk> Desk<D> {
         requires absent { home self.old.state.history page ≡ None }
         requires known { log_end self.old.state.history ≤ redo.old.seen.end }
         requires orderly { AreOrderly self.old.state.config self.old.state.history }
-        requires none_free { next_frame (book self.old.state.config self.old.state.history) ≡ None }
+        requires none_free { frame_in_turn (book self.old.state.config self.old.state.history) ≡ None }
         requires full { (f : ℕ) → f < self.old.state.config.frames → (p : PageId) × (home self.old.state.history p ≡ Some f) }
         ensures had { IfOk result (λ frame. HasFrame self.old self.new (F.seen frames.old) (F.seen frames.new) by frame) }
         ensures refused { IfErr result (λ e. IsUnhad self.old.state self.new.state (F.seen frames.old).rows by page call
-            (D.fault_count self.old.state.disk) (D.fault_count self.new.state.disk) redo.old.seen.durable redo.old.seen.faults redo.new.seen.faults e) }
+            (D.seen self.old.state.disk).faults (D.seen self.new.state.disk).faults redo.old.seen.durable redo.old.seen.faults redo.new.seen.faults e) }
         ensures unmoved { OnErr result ((F.seen frames.new).rows ≡ (F.seen frames.old).rows) }
         ensures unforced { IfErr result (λ e. IsUnforced redo.old redo.new e) }
-        ensures leaves { Leaves D.page_size D.tells D.told D.space_pages D.fault_count R.told page self.old.state self.new.state
+        ensures leaves { Leaves D.seen R.told page self.old.state self.new.state
             (F.seen frames.old) (F.seen frames.new) redo.old redo.new }
         ensures fixes { KeepsRoom (F.room frames.old) (F.room frames.new) }
     {
@@ -406,7 +406,7 @@ impl<D: PageDisk> Desk<D> {
     ) -> Result<u32, FrameErr>
         requires places { self.old.state.config.first + length self.old.state.history + 2 < 2 ^ 48 }
         requires room { 2 ≤ self.old.room }
-        requires tied { AreTied D.tells D.told D.space_pages (F.seen frames.old) self.old.state }
+        requires tied { AreTied D.seen (F.seen frames.old) self.old.state }
         requires settled { AreSettled (F.seen frames.old).rows }
         requires turn { HasTurn (F.seen frames.old) by }
         requires own { IsOwn (F.seen frames.old) self.old.state page }
@@ -415,7 +415,7 @@ impl<D: PageDisk> Desk<D> {
         requires absent { home self.old.state.history page ≡ None }
         requires known { log_end self.old.state.history ≤ redo.old.seen.end }
         ensures had { IfOk result (λ frame. IsHad self.old.state self.new.state (F.seen frames.old).rows (F.seen frames.new).rows by frame) }
-        ensures next { IfOk result (λ frame. next_frame (book self.new.state.config self.new.state.history) ≡ Some frame) }
+        ensures next { IfOk result (λ frame. frame_in_turn (book self.new.state.config self.new.state.history) ≡ Some frame) }
         ensures below { IfOk result (λ frame. frame < self.new.state.config.frames) }
         ensures vacant { IfOk result (λ frame. IsVacant self.new.state.history frame) }
         ensures absent { home self.new.state.history page ≡ None }
@@ -423,19 +423,19 @@ impl<D: PageDisk> Desk<D> {
         ensures room { IfOk result (λ frame. self.old.room ≤ self.new.room + 2) }
         ensures count { length self.new.state.history ≤ length self.old.state.history + 2 }
         ensures refused { IfErr result (λ e. IsUnhad self.old.state self.new.state (F.seen frames.old).rows by page call
-            (D.fault_count self.old.state.disk) (D.fault_count self.new.state.disk) redo.old.seen.durable redo.old.seen.faults redo.new.seen.faults e) }
+            (D.seen self.old.state.disk).faults (D.seen self.new.state.disk).faults redo.old.seen.durable redo.old.seen.faults redo.new.seen.faults e) }
         ensures unmoved { OnErr result ((F.seen frames.new).rows ≡ (F.seen frames.old).rows) }
-        ensures free { IsSome (next_frame (book self.old.state.config self.old.state.history)) → redo.new ≡ redo.old }
+        ensures free { IsSome (frame_in_turn (book self.old.state.config self.old.state.history)) → redo.new ≡ redo.old }
         ensures covered { (redo.new ≡ redo.old) ⊎ MustCover self.old.state (F.seen frames.old).rows redo.old.seen.durable }
         ensures unforced { IfErr result (λ e. IsUnforced redo.old redo.new e) }
-        ensures tied { AreTied D.tells D.told D.space_pages (F.seen frames.new) self.new.state }
+        ensures tied { AreTied D.seen (F.seen frames.new) self.new.state }
         ensures settled { AreSettled (F.seen frames.new).rows }
-        ensures page_told { D.told self.new.state.disk page ≡ D.told self.old.state.disk page }
-        ensures desk { LeavesDesk D.page_size D.tells D.space_pages D.fault_count self.old.state self.new.state }
+        ensures page_told { (D.seen self.new.state.disk).told page ≡ (D.seen self.old.state.disk).told page }
+        ensures desk { LeavesDesk D.seen self.old.state self.new.state }
         ensures log { KeepsLog R.told redo.old redo.new self.old.state.history self.new.state.history }
         ensures fixes { KeepsRoom (F.room frames.old) (F.room frames.new) }
-        ensures behind { (o : Opened) → IsBehind D.tells D.told D.space_pages o self.old.state (F.seen frames.old)
-            → IsBehind D.tells D.told D.space_pages o self.new.state (F.seen frames.new) }
+        ensures behind { (o : Opened) → IsBehind D.seen o self.old.state (F.seen frames.old)
+            → IsBehind D.seen o self.new.state (F.seen frames.new) }
     {
         match self.lists.next_frame() {
             Some(frame) => Ok(frame),

@@ -1,7 +1,7 @@
 -- What a trial keeps of its parts, so that each call may come at any time.
 use Rattle.std.specs.Prelude.{ℕ, ◌≡◌, ◌≤◌, ◌*◌, Option, IfSome, IsSome, length}
 use Rattle.page_ids.specs.declared.ids.PageSize.TheVariants as page_size
-use Rattle.page_disk.specs.MemoryDisks.{DiskMemory, tells_of, told_of, spaces_of}
+use Rattle.page_disk.specs.MemoryDisks.{DiskMemory, disk_seen}
 use Rattle.trail.specs.Dirt.{log_end}
 use Rattle.trail.specs.History.{home}
 use Rattle.frame_words.specs.Plain.{Plain, seen_of}
@@ -16,6 +16,6 @@ pub record IsOnTrial (calls : ℕ) (desk : State DiskMemory) (frames : Plain) (e
   pub frames_are : desk.config.frames ≤ 8192
   pub few : calls ≤ 2001
   pub short : length desk.history ≤ 9000 * calls
-  pub tied : AreTied tells_of told_of spaces_of (seen_of frames) desk
+  pub tied : AreTied disk_seen (seen_of frames) desk
   pub known : log_end desk.history ≤ end
   pub resident : IfSome fixed (λ page. IsSome (home desk.history (record { space = 0; page = page })))

@@ -1,13 +1,8 @@
-//! The tests of the desk, over devices in memory and the frames of one thread.
+//! The desk's public calls over devices in memory and the frames of one thread, each at least once.
 //!
-//! A crate of its own, since a crate with tests is proved twice. It uses what the layers above use, the public calls of `desk`. A test is
-//! a table: the steps of a trial, and the lines of what they answer and of the entries that they leave.
+//! Has nothing but tests. The scripts of run_rows make the same calls with every refusal.
 #![tactic(auto)]
 
-#[cfg(test)]
-mod creates;
-#[cfg(test)]
-mod play;
 #[cfg(test)]
 mod tests;
 #[cfg(test)]

@@ -1,4 +1,4 @@
-pub mod Nodes
 pub mod Places
 pub mod Order
-pub mod Views
+pub mod Frames
+pub mod Kept

@@ -1,5 +1,5 @@
 -- The list stays in order, and there is room for a new frame.
-use Rattle.std.proofs.Common.{◌≡◌, ◌≢◌, ◌∙◌, ◌<◌, ◌≤◌, ◌==◌, ℕ, suc, zero, not, List, [], ◌∷◌, inl, inr, length, get_or, sym, ap, subst, eqb, true, arith}
+use Rattle.std.proofs.Common.{◌≡◌, ◌≢◌, ◌∙◌, ◌<◌, ◌≤◌, ◌==◌, ℕ, suc, zero, not, List, [], ◌∷◌, inl, inr, length, get_or, Some, None, refl, sym, ap, subst, eqb, true, arith}
 use Rattle.std.specs.Prelude.{map, All, AllPairs}
 use Rattle.std.specs.List.{list_any}
 use Rattle.std.proofs.lemmas.Bool.{eqb-true, cases_eq, cases_lt, or_cases, false≢true}
@@ -10,8 +10,8 @@ use Rattle.std.proofs.lemmas.List.Kept.{AllPairs-cons, AllPairs-filter}
 use Rattle.std.proofs.lemmas.List.Sums.{length-filter, count_by-le-length}
 use Rattle.std.proofs.lemmas.Map.Made.{IsDistinct-from_AllPairs}
 use Rattle.std.proofs.lemmas.Map.Steps.{length-le_from_distinct_below}
-use Rattle.flush_list.specs.View.{Node, View, IsNew, IsNewest, IsInOrder, without, moved, relocated}
-use Rattle.flush_list.proofs.Places.{AreApart, away_from_place, moved_here, moved_else, moved_oldest}
+use Rattle.flush_list.specs.View.{Node, View, IsNew, IsNewest, IsInOrder, without, moved, relocated, tail_of}
+use Rattle.flush_list.proofs.Places.{AreApart, away_from_place, moved_here, moved_else, moved_oldest, last_at}
 
 below_from_any : (room q : ℕ) (frames : List ℕ) → All (λ f. f < room) frames → list_any (eqb q) frames ≡ true → q < room
 below_from_any room q [] h a = absurd (false≢true a)
@@ -112,8 +112,8 @@ order-grow v frames more h = record {
 }
 
 -- no oldest LSN is below the last node's
-pub tail_least : (xs : List Node) (i : ℕ) (d : Node) → AllPairs (λ x y. y.oldest ≤ x.oldest) xs → length xs ≡ suc i → All (λ x. (get_or xs i d).oldest ≤ x.oldest) xs
-tail_least xs i d falling len = λ k e l.
+least_at : (xs : List Node) (i : ℕ) (d : Node) → AllPairs (λ x y. y.oldest ≤ x.oldest) xs → length xs ≡ suc i → All (λ x. (get_or xs i d).oldest ≤ x.oldest) xs
+least_at xs i d falling len = λ k e l.
     let same : get_or xs i d ≡ get_or xs i e = get_or_default xs i d e (omega (arith, len)) in
     elim (cases_lt k i) [
       | inl less ↦ omega (arith, ap (λ (z : Node). z.oldest) same, falling k i e less (omega (arith, len)))
@@ -121,3 +121,10 @@ tail_least xs i d falling len = λ k e l.
           let at : k ≡ i = omega (arith, past, l, len) in
           omega (arith, ap (λ (z : Node). z.oldest) same, ap (λ j. (get_or xs j e).oldest) at)
     ]
+
+pub tail_least : (xs : List Node) (y : Node) → AllPairs (λ x y. y.oldest ≤ x.oldest) xs → tail_of xs ≡ Some y → All (λ x. y.oldest ≤ x.oldest) xs
+tail_least [] y falling e = λ k d l. absurd (omega arith)
+tail_least (x ∷ xs) y falling e =
+    let same : Some y ≡ Some (get_or (x ∷ xs) (length xs) y) = sym e ∙ last_at None (x ∷ xs) (length xs) y refl in
+    let is : y ≡ get_or (x ∷ xs) (length xs) y = cc in
+    subst (λ (z : Node). All (λ x. z.oldest ≤ x.oldest) (x ∷ xs)) (sym is) (least_at (x ∷ xs) (length xs) y falling refl)

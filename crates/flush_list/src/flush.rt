@@ -1,27 +1,26 @@
 //! The list, and its calls.
-ghost use Rattle.std.specs.Prelude.{◌≡◌, ◌==◌, ◌+◌, ◌<◌, ◌≤◌, [], ◌∷◌, All, max, length, slice_get, Some, IfSome, IsOk, OnOk, OnErr};
+ghost use Rattle.std.specs.Prelude.{◌≡◌, ◌==◌, ◌+◌, ◌<◌, ◌≤◌, [], ◌∷◌, All, max, length, IfSome, IsOk, OnOk, OnErr};
 ghost use Rattle.std.specs.Option.{option_map};
 ghost use Rattle.flush_list.specs.View.{Has, IsNew, IsNewest, IsInOrder, place_of, without, relocated, tail_of, next_up};
 
+use link_lists::{Chain, Nodes, a_chain_is_one_list};
 use page_ids::OutOfMemory;
 use std::alloc::Global;
 use std::marker::Model;
 
-/// A frame whose page is dirty.
-#[derive(Clone, Copy, Debug)]
-struct Dirty {
-    frame: u32,
-    /// The LSN at which its page's first change that isn't on the disk starts, in bytes of the log.
-    oldest: u64,
-}
-
 /// The frames of an instance's dirty pages, the head first (buf0flu's `flush_list`).
 ///
-/// A frame is a number below the room; an LSN counts bytes of the log, 0 to 2^64 - 1.
+/// A frame is a number below the room; an LSN counts bytes of the log, 0 to 2^64 - 1. No call but `grow` takes memory, and none
+/// walks the list.
 #[derive(Debug, Drop)]
 pub struct Flush {
-    listed: Vec<Dirty>,
-    room: u32,
+    nodes: Nodes,
+    chain: Chain,
+    /// How many frames are listed.
+    len: u32,
+    /// For each frame below the room, the LSN at which its page's first change that isn't on the disk starts. It is read only
+    /// where the frame is listed.
+    oldest: Vec<u64>,
 }
 
 impl Model for Flush {
@@ -36,17 +35,17 @@ impl Model for Flush {
     ghost invariant = { IsKept };
 }
 
-#[cfg(test)]
-mod tests;
-
 impl Flush {
     /// The empty list, with room for no frame.
     pub fn new(alloc: Global) -> Flush
         ensures { result ≡ record { listed = []; room = 0 } }
     {
+        a_chain_is_one_list();
         Flush {
-            listed: Vec::new(alloc),
-            room: 0,
+            nodes: Nodes::new(alloc, 1),
+            chain: Chain::new(0),
+            len: 0,
+            oldest: Vec::new(alloc),
         }
     }
 
@@ -56,10 +55,10 @@ impl Flush {
         ensures err { OnErr result (self.new ≡ self.old) }
         ensures had { frames ≤ self.old.room → IsOk result }
     {
-        if self.room < frames {
-            let more = frames as usize - self.listed.len();
-            self.listed.try_reserve(more)?;
-            self.room = frames;
+        a_chain_is_one_list();
+        if self.oldest.len() < frames as usize {
+            self.nodes.grow(frames)?;
+            self.oldest.resize(frames as usize, 0)?;
         }
         Ok(())
     }
@@ -69,7 +68,7 @@ impl Flush {
         ensures len { result ≡ length self.now.listed }
         ensures few { result ≤ self.now.room }
     {
-        self.listed.len() as u32
+        self.len
     }
 
     /// Each frame is listed once, only those below the room are, and the oldest LSNs don't rise from the head to the tail
@@ -77,62 +76,44 @@ impl Flush {
     pub fn stands_in_order(&self)
         ensures { IsInOrder self.now }
     {
-        let _room = self.room;
-    }
-
-    /// The place of a frame, and the length where it isn't listed.
-    fn place(&self, frame: u32) -> usize
-        ensures { result ≡ place_of frame self.now.listed }
-    {
-        for (i, x) in self.listed.iter().enumerate() {
-            if x.frame == frame {
-                return i;
-            }
-        }
-        self.listed.len()
-    }
-
-    /// The one at a place.
-    fn at(&self, place: usize) -> Dirty
-        requires { place < length self.now.listed }
-        ensures node { slice_get self.now.listed place ≡ Some (record { frame = result.frame; oldest = result.oldest }) }
-        ensures place { place_of result.frame self.now.listed ≡ place }
-    {
-        self.listed[place]
+        let _len = self.len;
     }
 
     /// Puts a frame in at the head, whose page became dirty by a change that starts at the LSN `oldest`
-    /// (buf0flu's `buf_flush_insert_into_flush_list`). No listed page has a later one; an equal one may stand there.
+    /// (buf0flu's `buf_flush_insert_into_flush_list`). No listed page has a later one; an equal one may stand there. Touches
+    /// the frame and the head.
     pub fn add(&mut self, frame: u32, oldest: u64)
         requires new { IsNew self.old frame }
         requires newest { IsNewest oldest self.old.listed }
         ensures { self.new ≡ record self.old { listed = record { frame = frame; oldest = oldest } ∷ self.old.listed } }
     {
-        match self.listed.insert(0, Dirty { frame, oldest }) {
-            Ok(()) => {}
-            Err(_) => unreachable!(),
-        }
+        a_chain_is_one_list();
+        self.oldest[frame as usize] = oldest;
+        self.chain.push_front(&mut self.nodes, frame);
+        self.len += 1;
     }
 
-    /// Takes out a frame whose page was written (buf0flu's `buf_flush_remove`).
+    /// Takes out a frame whose page was written (buf0flu's `buf_flush_remove`). Touches the frame and its neighbours.
     pub fn remove(&mut self, frame: u32)
         requires { Has self.old frame }
         ensures { self.new ≡ record self.old { listed = without frame self.old.listed } }
     {
-        let at = self.place(frame);
-        self.listed.remove(at);
+        a_chain_is_one_list();
+        self.chain.unlink(&mut self.nodes, frame);
+        self.len -= 1;
     }
 
     /// Puts the frame `new` in the place of `old`, whose page moved there. It has the oldest LSN that `old` had
-    /// (buf0flu's `buf_flush_relocate_on_flush_list`).
+    /// (buf0flu's `buf_flush_relocate_on_flush_list`). Touches both frames and the neighbours.
     pub fn relocate(&mut self, old: u32, new: u32)
         requires listed { Has self.old old }
         requires new { IsNew self.old new }
         ensures { self.new ≡ record self.old { listed = relocated old new self.old.listed } }
     {
-        let at = self.place(old);
-        let oldest = self.listed[at].oldest;
-        self.listed[at] = Dirty { frame: new, oldest };
+        a_chain_is_one_list();
+        let oldest = self.oldest[old as usize];
+        self.oldest[new as usize] = oldest;
+        self.chain.replace(&mut self.nodes, old, new);
     }
 
     /// The frame at the tail, whose page is dirty since the oldest change; none where the list is empty.
@@ -140,24 +121,18 @@ impl Flush {
         ensures tail { result ≡ option_map (λ x. x.frame) (tail_of self.now.listed) }
         ensures last { IfSome result (λ frame. place_of frame self.now.listed + 1 ≡ length self.now.listed) }
     {
-        let len = self.listed.len();
-        if len == 0 {
-            return None;
-        }
-        Some(self.at(len - 1).frame)
+        self.chain.back()
     }
 
     /// The frame next to one towards the head, which stands one place before it; none in front of the head.
+    /// It is read of the frame itself.
     pub fn before(&self, frame: u32) -> Option<u32>
         requires { Has self.now frame }
         ensures next { result ≡ option_map (λ x. x.frame) (next_up frame self.now.listed) }
         ensures step { IfSome result (λ next. place_of next self.now.listed + 1 ≡ place_of frame self.now.listed) }
     {
-        let at = self.place(frame);
-        if at == 0 {
-            return None;
-        }
-        Some(self.at(at - 1).frame)
+        a_chain_is_one_list();
+        self.chain.prev(&self.nodes, frame)
     }
 
     /// The oldest LSN of all that are listed, in bytes of the log: the tail's; none where the list is empty
@@ -166,10 +141,8 @@ impl Flush {
         ensures oldest { result ≡ option_map (λ x. x.oldest) (tail_of self.now.listed) }
         ensures least { IfSome result (λ lsn. All (λ x. lsn ≤ x.oldest) self.now.listed) }
     {
-        let len = self.listed.len();
-        if len == 0 {
-            return None;
-        }
-        Some(self.at(len - 1).oldest)
+        a_chain_is_one_list();
+        let tail = self.chain.back()?;
+        Some(self.oldest[tail as usize])
     }
 }

@@ -2,7 +2,7 @@
 //!
 //! A frame whose page becomes dirty is put in at the head, with the LSN at which its first change that isn't on the disk
 //! starts. It keeps its place and that LSN until its page is written. So the oldest LSNs don't rise from the head to the
-//! tail, and the tail's is where a redo would have to begin. The list stands in a plain vector, which no contract tells.
+//! tail, and the tail's is where a redo would have to begin. The list is linked by index.
 //! Knows nothing of pages, devices, the log or histories.
 #![tactic(auto)]
 

@@ -1,6 +1,5 @@
 -- How a `Book` is kept.
-use Rattle.std.specs.Prelude.{◌≤◌, ◌*◌, vec_capacity}
-use Rattle.std.specs.VecDeque.{deque_capacity}
+use Rattle.std.specs.Prelude.{◌≤◌, ◌<◌, ◌*◌, ◌^◌}
 use Rattle.frame_book.specs.declared.book.Book.TheInside.{Inside}
 use Rattle.frame_book.specs.View.{View, IsInOrder}
 
@@ -11,12 +10,13 @@ view_of a = record {
   max = a.max;
   chunks = a.chunks;
   area = a.area;
-  free = a.free.items;
-  withdrawn = a.withdrawn.items;
+  free = a.lists.free;
+  withdrawn = a.lists.withdrawn;
+  room = a.lists.room;
 }
 
--- both lists in order, and memory on each for all frames that are there
+-- both lists in order, and room on them for all frames that are there
 pub record IsKept (a : Inside) : Type 0 where
   pub order : IsInOrder (view_of a)
-  pub free_room : a.chunks * a.frames ≤ deque_capacity a.free
-  pub withdrawn_room : a.chunks * a.frames ≤ vec_capacity a.withdrawn
+  pub enough : a.chunks * a.frames ≤ a.lists.room
+  pub most : a.lists.room ≤ 16384

@@ -1,9 +1,10 @@
 -- What callers see of a frame book, and what each call makes of it.
-use Rattle.std.specs.Prelude.{ℕ, Bool, true, false, not, List, [], ◌∷◌, ◌++◌, Option, None, Some, ◌≡◌, ◌<◌, ◌≤◌, ◌==◌, ◌+◌, ◌*◌, IfSome, filter, drop, count_by, nat_le, if◌then◌else◌}
+use Rattle.std.specs.Prelude.{ℕ, Bool, true, false, not, List, [], ◌∷◌, ◌++◌, Option, None, Some, ◌≡◌, ◌<◌, ◌≤◌, ◌==◌, ◌+◌, ◌*◌, IfSome, filter, drop, count_by, max, nat_le, if◌then◌else◌}
 use Rattle.std.specs.Option.{option_map_or, unwrap_or}
 use Rattle.page_ids.specs.Chunks.{rising}
 
--- the frames of a chunk, the most chunks, the chunks that are there, the first withdrawn one, the free frames, the withdrawn ones
+-- the frames of a chunk, the most chunks, the chunks that are there, the first withdrawn one, the free frames, the withdrawn ones,
+-- and the room: there is memory for the frames below it
 pub record View : Type 0 where
   pub frames : ℕ
   pub max : ℕ
@@ -11,6 +12,7 @@ pub record View : Type 0 where
   pub area : Option ℕ
   pub free : List ℕ
   pub withdrawn : List ℕ
+  pub room : ℕ
 
 -- the frames that are there: the numbers below this one
 abbrev pub frames_of : View → ℕ
@@ -66,7 +68,7 @@ given f v = if is_inside v f then record v { withdrawn = v.withdrawn ++ f ∷ []
 
 -- one chunk more, whose frames are free, rising
 abbrev pub grown : View → View
-grown v = record v { chunks = v.chunks + 1; free = v.free ++ rising (frames_of v) v.frames }
+grown v = record v { chunks = v.chunks + 1; free = v.free ++ rising (frames_of v) v.frames; room = max v.room ((v.chunks + 1) * v.frames) }
 
 -- the chunks from this one upwards are the area, and its free frames are withdrawn
 abbrev pub withdrawing : ℕ → View → View

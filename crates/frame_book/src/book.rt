@@ -1,10 +1,11 @@
 //! The book, and its calls.
-ghost use Rattle.std.specs.Prelude.{◌≡◌, ◌*◌, ◌<◌, ◌≤◌, ◌↔◌, ℕ, [], None, Some, IsTrue, IsSome, IfSome, IsOk, IsErrOf, OnOk, OnErr};
+ghost use Rattle.std.specs.Prelude.{◌≡◌, ◌+◌, ◌*◌, ◌<◌, ◌≤◌, ◌↔◌, ℕ, [], max, None, Some, IsTrue, IsSome, IfSome, IsOk, IsErrOf, OnOk, OnErr};
 ghost use Rattle.frame_book.specs.View.{is_inside, IsInUse, IsAllWithdrawn, IsInOrder, front, taken, given, grown, withdrawing, undone, finished};
 
-use crate::moves::{append_rising, make_room, put_back, withdraw_from};
+use crate::lists::Lists;
+use crate::moves::{append_rising, put_back, withdraw_from};
+use page_ids::OutOfMemory;
 use std::alloc::Global;
-use std::collections::VecDeque;
 use std::marker::Model;
 
 /// Why the chunks stay as they are.
@@ -24,6 +25,9 @@ pub enum BookErr {
 ///
 /// Frame numbers rise through the chunks: chunk k has the frames from k * frames to (k + 1) * frames - 1. A frame that is there and
 /// on neither list is in use.
+///
+/// `take_free` and `give` touch one end of a list each, and need no memory. Beginning a withdrawal touches each free frame once, an
+/// undo each withdrawn one; `finish_withdraw` touches none.
 #[derive(Debug, Drop)]
 pub struct Book {
     /// How many frames a chunk has.
@@ -33,8 +37,7 @@ pub struct Book {
     chunks: u32,
     /// The first withdrawn chunk, where an area is open.
     area: Option<u32>,
-    free: VecDeque<u32>,
-    withdrawn: Vec<u32>,
+    lists: Lists,
 }
 
 impl Model for Book {
@@ -49,23 +52,19 @@ impl Model for Book {
     ghost invariant = { IsKept };
 }
 
-#[cfg(test)]
-mod tests;
-
 impl Book {
     /// The book of no chunk. A chunk will have so many frames, and there will be at most `max` chunks.
     pub fn new(alloc: Global, frames: u32, max: u32) -> Book
         requires full { 1 ≤ frames }
         requires few { frames * max ≤ 16384 }
-        ensures { result ≡ record { frames = frames; max = max; chunks = 0; area = None; free = []; withdrawn = [] } }
+        ensures { result ≡ record { frames = frames; max = max; chunks = 0; area = None; free = []; withdrawn = []; room = 0 } }
     {
         Book {
             frames,
             max,
             chunks: 0,
             area: None,
-            free: VecDeque::new(alloc),
-            withdrawn: Vec::new(alloc),
+            lists: Lists::new(alloc),
         }
     }
 
@@ -99,14 +98,29 @@ impl Book {
         chunk * self.frames
     }
 
-    /// Adds a chunk, whose frames go to the back of the free list in rising number (buf0buf's `buf_pool_resize`). Takes all memory that
-    /// these frames need on either list.
+    /// Makes room for the frames of so many chunks in all: adding these then needs no memory. There is never less room than before.
+    /// Where there is as much, no memory is taken.
+    pub fn reserve(&mut self, chunks: u32) -> Result<(), OutOfMemory>
+        requires { chunks ≤ self.old.max }
+        ensures ok { OnOk result (self.new ≡ record self.old { room = max self.old.room (chunks * self.old.frames) }) }
+        ensures err { OnErr result (self.new ≡ self.old) }
+        ensures had { chunks * self.old.frames ≤ self.old.room → IsOk result }
+    {
+        let frames = self.first_of(chunks);
+        self.lists.grow(frames)?;
+        Ok(())
+    }
+
+    /// Adds a chunk, whose frames go to the back of the free list in rising number (buf0buf's `buf_pool_resize`). Takes the memory
+    /// that these frames need on either list, where there is no room for them.
     pub fn add_chunk(&mut self) -> Result<(), BookErr>
         ensures ok { OnOk result (self.new ≡ grown self.old) }
         ensures err { OnErr result (self.new ≡ self.old) }
         ensures withdrawing { (from : ℕ) → IsErrOf result (BookErr.Withdrawing from) ↔ (self.old.area ≡ Some from) }
         ensures full { (chunks : ℕ) → IsErrOf result (BookErr.ChunksFull chunks)
             ↔ ((self.old.area ≡ None) × (self.old.chunks ≡ self.old.max) × (self.old.chunks ≡ chunks)) }
+        ensures had { self.old.area ≡ None → self.old.chunks < self.old.max → (self.old.chunks + 1) * self.old.frames ≤ self.old.room
+            → IsOk result }
         ensures other { ¬ IsErrOf result BookErr.LastChunk }
     {
         if let Some(from) = self.area {
@@ -119,13 +133,20 @@ impl Book {
         }
         let first = self.first_of(self.chunks);
         let frames = self.frames;
-        match make_room(&mut self.free, &mut self.withdrawn, first + frames) {
+        match self.lists.grow(first + frames) {
             Ok(()) => {}
             Err(_) => return Err(BookErr::OutOfMemory),
         }
-        append_rising(&mut self.free, first, frames);
+        append_rising(&mut self.lists, first, frames);
         self.chunks += 1;
         Ok(())
+    }
+
+    /// The frame that `take_free` would take; it stays listed.
+    pub fn front(&self) -> Option<u32>
+        ensures { result ≡ front self.now.free }
+    {
+        self.lists.front()
     }
 
     /// Takes the front of the free list; none where it is empty (buf0lru's `buf_LRU_get_free_only`).
@@ -134,7 +155,7 @@ impl Book {
         ensures rest { self.new ≡ taken self.old }
         ensures in_use { IfSome result (λ frame. IsInUse self.new frame) }
     {
-        self.free.pop_front()
+        self.lists.take_free()
     }
 
     /// Whether a frame lies in the area.
@@ -154,9 +175,9 @@ impl Book {
         ensures { self.new ≡ given frame self.old }
     {
         if self.is_inside(frame) {
-            self.withdrawn.push_reserved(frame);
+            self.lists.push_withdrawn(frame);
         } else {
-            self.free.push_back_reserved(frame);
+            self.lists.push_free(frame);
         }
     }
 
@@ -177,7 +198,7 @@ impl Book {
             return Err(BookErr::LastChunk);
         }
         let first = self.first_of(from);
-        withdraw_from(&mut self.free, &mut self.withdrawn, first);
+        withdraw_from(&mut self.lists, first);
         self.area = Some(from);
         Ok(())
     }
@@ -189,7 +210,7 @@ impl Book {
         match self.area {
             Some(from) => {
                 let frames = self.first_of(self.chunks) - self.first_of(from);
-                self.withdrawn.len() == frames as usize
+                self.lists.withdrawn_len() == frames
             }
             None => false,
         }
@@ -202,7 +223,7 @@ impl Book {
     {
         self.chunks = self.area.unwrap_or(self.chunks);
         self.area = None;
-        self.withdrawn.clear();
+        self.lists.clear_withdrawn();
     }
 
     /// Closes the area, whose withdrawn frames go to the back of the free list in their order.
@@ -210,7 +231,7 @@ impl Book {
         requires { IsSome self.old.area }
         ensures { self.new ≡ undone self.old }
     {
-        put_back(&mut self.free, &mut self.withdrawn);
+        put_back(&mut self.lists);
         self.area = None;
     }
 }

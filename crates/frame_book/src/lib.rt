@@ -3,11 +3,12 @@
 //! A chunk is a run of frames with rising numbers. A frame that is there is on the free list, on the withdraw list, or in
 //! use. A pool grows by a chunk at its end. It shrinks in steps: an area is opened, which is all frames of the chunks from
 //! one upwards; what is free there, and what is given back there later, goes to the withdraw list; and when all of the area
-//! stands there, its chunks are given up. Or the withdrawal is undone. The lists stand in a plain queue and a plain vector,
-//! which no contract tells. Knows nothing of pages, devices or histories.
+//! stands there, its chunks are given up. Or the withdrawal is undone. The lists are linked by index.
+//! Knows nothing of pages, devices or histories.
 #![tactic(auto)]
 
 pub mod book;
+mod lists;
 mod moves;
 
 pub use book::{Book, BookErr};

@@ -1,5 +1,2 @@
 pub mod Fits
-pub mod Fixes
-pub mod GivesBack
 pub mod Told
-pub mod Tells

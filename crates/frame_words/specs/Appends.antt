@@ -3,7 +3,8 @@ use Rattle.std.specs.Prelude.{ℕ, Bool, true, false, List, [], ◌∷◌, ◌�
 use Rattle.std.specs.Option.{option_map}
 use Rattle.page_ids.specs.declared.frame_word.Word.{Word}
 use Rattle.page_ids.specs.declared.ids.PageId.{PageId}
-use Rattle.trail.specs.Calls.{kind_answers, held_after_kind, newest_of}
+use Rattle.trail.specs.Kinds.{kind_answers}
+use Rattle.trail.specs.Calls.{held_after_kind, newest_fix}
 use Rattle.trail.specs.History.{home}
 use Rattle.trail.specs.declared.event.Call.{Call}
 use Rattle.trail.specs.declared.event.Call.TheVariants as call
@@ -252,7 +253,7 @@ abbrev pub FitsOpen : List Held → Kind → Type 0
 FitsOpen opened (kind.Load p f) = ⊤
 FitsOpen opened (kind.Fix p f clock now) = length opened < 64
 FitsOpen opened (kind.Create p f start end now) = length opened < 64
-FitsOpen opened (kind.Put p at bytes start end) = IsSome (newest_of opened p)
+FitsOpen opened (kind.Put p at bytes start end) = IsSome (newest_fix opened p)
 FitsOpen opened (kind.Evict p f passed) = ⊤
 FitsOpen opened (kind.Write p lsn upto) = ⊤
 FitsOpen opened (kind.Move p from to) = ⊤

@@ -7,11 +7,11 @@ use Rattle.page_ids.specs.Size.{page_bytes}
 use Rattle.page_ids.specs.declared.frame_word.Word.{Word}
 use Rattle.page_ids.specs.declared.ids.PageId.{PageId}
 use Rattle.trail.specs.History.{home, change, value}
-use Rattle.trail.specs.Places.{mark}
+use Rattle.trail.specs.Trails.{mark}
 use Rattle.trail.specs.declared.event.Entry.{Entry}
 use Rattle.frame_words.specs.Rows.{Uncovers}
 use Rattle.frame_words.specs.Seen.{FramesSeen, History, Turn, row_at, Finds, OnValue}
-use Rattle.trail.specs.Alone.{words_told}
+use Rattle.trail.specs.Words.{words_told}
 use Rattle.frame_words.specs.Appends.{AreReady, FitsHomes, FitsOpen, IsNoHome, pages_named}
 
 -- Each home that isn't resident is claimed, and not one that is still to be published: of such a one the clock is behind its last change.

@@ -3,4 +3,3 @@ pub mod Seen
 pub mod Appends
 pub mod Conditions
 pub mod Plain
-pub mod Telling

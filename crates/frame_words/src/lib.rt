@@ -11,6 +11,3 @@ pub mod plain_frames;
 
 pub use frames::Frames;
 pub use plain_frames::PlainFrames;
-
-#[cfg(test)]
-mod tests;

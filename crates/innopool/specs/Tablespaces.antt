@@ -2,6 +2,7 @@
 use Rattle.std.specs.Prelude.{ℕ, Bool, false, List, Option, None, Some, ◌==◌, if◌then◌else◌}
 use Rattle.page_ids.specs.Size.{page_bytes}
 use Rattle.page_ids.specs.declared.ids.PageId.{PageId}
+use Rattle.page_disk.specs.Disks.{DiskSeen}
 use Rattle.innopool.specs.declared.tablespace.TablespaceFile.{TablespaceFile}
 
 abbrev pub size_of : TablespaceFile → ℕ
@@ -21,3 +22,6 @@ faults_of d = d.faults
 
 abbrev pub synced_of : TablespaceFile → Bool
 synced_of d = d.synced
+
+abbrev pub tablespace_seen : TablespaceFile → DiskSeen
+tablespace_seen d = record { size = size_of d; tells = tells_of d; told = told_of d; spaces = spaces_of d; faults = faults_of d; synced = synced_of d }

@@ -8,8 +8,6 @@ mod file_shelf;
 mod log_file;
 mod standard;
 mod tablespace;
-#[cfg(test)]
-mod tests;
 
 use file_shelf::FileShelf;
 use script_run::run;

@@ -4,7 +4,7 @@ ghost use Rattle.page_ids.specs.Faults.{IsCounted};
 ghost use Rattle.page_ids.specs.Layout.{u64_at};
 ghost use Rattle.page_disk.specs.Disks.{IsInside, IsSameDisk, IsOtherwiseSame, Fades};
 ghost use Rattle.page_disk.specs.Calls.{CountsOnce};
-ghost use Rattle.innopool.specs.Tablespaces.{size_of, tells_of, told_of, spaces_of, faults_of, synced_of};
+ghost use Rattle.innopool.specs.Tablespaces.{tablespace_seen, size_of, tells_of, told_of, spaces_of, faults_of, synced_of};
 
 use page_disk::{FaultCount, PageDisk};
 use page_ids::{Failed, PageId, PageSize};
@@ -53,19 +53,9 @@ impl TablespaceFile {
 
 impl PageDisk for TablespaceFile {
     ghost use Rattle.std.specs.Prelude.{None};
-    ghost use Rattle.innopool.specs.Tablespaces.{size_of, tells_of, told_of, spaces_of, faults_of, synced_of};
+    ghost use Rattle.innopool.specs.Tablespaces.{tablespace_seen};
 
-    ghost page_size = { size_of };
-
-    ghost tells = { tells_of };
-
-    ghost told = { told_of };
-
-    ghost space_pages = { spaces_of };
-
-    ghost fault_count = { faults_of };
-
-    ghost synced = { synced_of };
+    ghost seen = { tablespace_seen };
 
     ghost silent = { λ d p silent. λ i. None };
 
@@ -73,7 +63,7 @@ impl PageDisk for TablespaceFile {
     fn read(&mut self, page: PageId, out: &mut [u8]) -> Result<(), Failed>
         requires inside { IsInside (spaces_of self.old) page }
         requires size { length out.old ≡ size_of self.old }
-        ensures same { IsSameDisk size_of tells_of told_of spaces_of faults_of self.old self.new }
+        ensures same { IsSameDisk (tablespace_seen self.old) (tablespace_seen self.new) }
         ensures unwritten { synced_of self.new ≡ synced_of self.old }
         ensures cause { IsCounted (faults_of self.old) (faults_of self.new) result }
         ensures once { CountsOnce (faults_of self.old) (faults_of self.new) result }
@@ -98,7 +88,7 @@ impl PageDisk for TablespaceFile {
         requires covered { lsn ≤ covered.now }
         ensures written { OnOk result (IsTrue (tells_of self.old) → told_of self.new page ≡ Some bytes.now) }
         ensures failed { OnErr result (Fades (told_of self.old page) (told_of self.new page)) }
-        ensures others { IsOtherwiseSame size_of tells_of told_of spaces_of faults_of page self.old self.new }
+        ensures others { IsOtherwiseSame page (tablespace_seen self.old) (tablespace_seen self.new) }
         ensures unsynced { synced_of self.new ≡ false }
         ensures cause { IsCounted (faults_of self.old) (faults_of self.new) result }
         ensures once { CountsOnce (faults_of self.old) (faults_of self.new) result }
@@ -111,7 +101,7 @@ impl PageDisk for TablespaceFile {
     }
 
     fn sync(&mut self) -> Result<(), Failed>
-        ensures same { IsSameDisk size_of tells_of told_of spaces_of faults_of self.old self.new }
+        ensures same { IsSameDisk (tablespace_seen self.old) (tablespace_seen self.new) }
         ensures synced { OnOk result (IsTrue (synced_of self.new)) }
         ensures failed { OnErr result (synced_of self.new ≡ synced_of self.old) }
         ensures cause { IsCounted (faults_of self.old) (faults_of self.new) result }

@@ -5,7 +5,8 @@ use Rattle.link_lists.specs.declared.nodes.Link.{Link}
 use Rattle.link_lists.specs.Grid.{Grid, link_of, times, Leaves, IsWritten}
 use Rattle.link_lists.specs.Chains.{Ends, first_or, last_or, first, last, AreLinked, IsChain}
 use Rattle.link_lists.specs.Cuts.{IsCut}
-use Rattle.link_lists.proofs.Written.{times-cons, times-append, times_at, times_past, times_last, last_some, apart_one, none_one, linked_within, linked_apart, linked_last, linked_first, leaves_more}
+use Rattle.link_lists.proofs.Times.{times-cons, times-append, times_at, times_past}
+use Rattle.link_lists.proofs.Written.{times_last, last_some, apart_one, none_one, linked_within, linked_apart, linked_last, linked_first, leaves_more}
 
 -- lists that are linked one behind the other
 linked-append : (g : Grid) (pair : ℕ) (p : Option ℕ) (xs ys : List ℕ) (b : Option ℕ) → AreLinked g pair p xs (first_or ys b) → AreLinked g pair (last_or p xs) ys b → AreLinked g pair p (xs ++ ys) b

@@ -1,12 +1,13 @@
 -- A chain is the list that is found by following it.
-use Rattle.std.proofs.Common.{◌≡◌, ◌∙◌, ◌<◌, ◌≤◌, ℕ, zero, suc, true, false, eqb, List, [], ◌∷◌, ◌++◌, inl, inr, length, Option, Some, None, refl, sym, ap, subst, arith}
+use Rattle.std.proofs.Common.{◌≡◌, ◌∙◌, ◌<◌, ◌≤◌, ℕ, zero, suc, true, false, eqb, List, [], ◌∷◌, inl, inr, length, Option, Some, None, refl, sym, ap, subst, arith}
 use Rattle.std.specs.List.{IsDistinct, AllByRecursion, list_any}
 use Rattle.std.proofs.lemmas.Map.Steps.{length-le_from_distinct_below}
 use Rattle.std.proofs.lemmas.Bool.{cases_eq, ne_eqb}
 use Rattle.link_lists.specs.declared.nodes.Link.{Link}
 use Rattle.link_lists.specs.Grid.{Grid, times}
 use Rattle.link_lists.specs.Chains.{Ends, first, AreLinked, IsChain, Has, followed, list_of}
-use Rattle.link_lists.proofs.Written.{times-cons, times_at, times_past, linked_within}
+use Rattle.link_lists.proofs.Times.{times-cons, times_at, times_past, placed}
+use Rattle.link_lists.proofs.Written.{linked_within}
 
 others_differ : (x : ℕ) (xs : List ℕ) → times x xs ≡ 0 → AllByRecursion (λ y. eqb x y ≡ false) xs
 others_differ x [] none = tt
@@ -40,17 +41,6 @@ followed_is g pair p (x ∷ xs) (suc n) le k =
 
 pub found : (g : Grid) (c : Ends) (xs : List ℕ) → IsChain g c xs → list_of g c ≡ xs
 found g c xs k = ap (λ at. followed g c.pair g.nodes at) k.head ∙ followed_is g c.pair None xs g.nodes (few g c xs k) k.linked
-
--- who stands in a list has a place in it
-placed : (x : ℕ) (xs : List ℕ) → 1 ≤ times x xs → (front back : List ℕ) × (xs ≡ front ++ x ∷ back)
-placed x [] h = absurd (omega arith)
-placed x (y ∷ ys) h = elim (cases_eq y x) [
-  | inl e ↦ ([], ys, ap (λ i. i ∷ ys) e)
-  | inr ne ↦ behind (placed x ys (omega (arith, h, times_past x y ys ne)))
-]
-  where
-    behind : (front back : List ℕ) × (ys ≡ front ++ x ∷ back) → (front back : List ℕ) × (y ∷ ys ≡ front ++ x ∷ back)
-    behind t = (y ∷ t.0, t.1, ap (λ zs. y ∷ zs) t.2)
 
 pub present : (g : Grid) (c : Ends) (xs : List ℕ) (x : ℕ) → IsChain g c xs → 1 ≤ times x xs → Has g c x
 present g c xs x k there = let t = placed x xs there in (t.0, t.1, subst (λ ys. IsChain g c ys) t.2 k)

@@ -8,7 +8,8 @@ use Rattle.std.proofs.lemmas.Bool.{cases_lt}
 use Rattle.link_lists.specs.declared.nodes.Link.{Link}
 use Rattle.link_lists.specs.Grid.{Grid, unlinked, times, IsWritten}
 use Rattle.link_lists.specs.Chains.{IsGrown}
-use Rattle.link_lists.proofs.Written.{times_at, linked_same}
+use Rattle.link_lists.proofs.Times.{times_at}
+use Rattle.link_lists.proofs.Written.{linked_same}
 
 -- another node, or another pair, has another place
 elsewhere : (pair node pairs q y : ℕ) → pair < pairs → q < pairs → (q ≢ pair) ⊎ (times y (node ∷ []) ≡ 0) → y * pairs + q ≢ node * pairs + pair

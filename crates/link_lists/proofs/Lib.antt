@@ -1,5 +1,5 @@
+pub mod Times
 pub mod Written
 pub mod Grids
 pub mod Cuts
 pub mod Follow
-pub mod Steps

@@ -1,22 +1,10 @@
--- How often a node stands in a list, and what a write leaves of the links.
-use Rattle.std.proofs.Common.{◌≡◌, ◌≢◌, ◌∙◌, ◌+◌, ◌<◌, ◌≤◌, ◌==◌, ℕ, cond, List, [], ◌∷◌, ◌++◌, ◌⊎◌, inl, inr, Option, Some, None, refl, ap, subst, arith}
-use Rattle.std.proofs.lemmas.List.Sums.{sum_by-cons, sum_by-append}
-use Rattle.std.proofs.lemmas.Bool.{cases_eq, ne_eqb, eq-eqb}
+-- What a write leaves of the links.
+use Rattle.std.proofs.Common.{◌≡◌, ◌≢◌, ◌∙◌, ◌<◌, ◌≤◌, ℕ, List, [], ◌∷◌, ◌⊎◌, inl, inr, Option, Some, None, refl, ap, subst, arith}
+use Rattle.std.proofs.lemmas.Bool.{cases_eq}
 use Rattle.link_lists.specs.declared.nodes.Link.{Link}
 use Rattle.link_lists.specs.Grid.{Grid, link_of, times, Leaves, IsWritten}
 use Rattle.link_lists.specs.Chains.{last_or, AreLinked, IsApart, Keeps}
-
-pub times-cons : (x y : ℕ) (ys : List ℕ) → times x (y ∷ ys) ≡ cond (y == x) 1 0 + times x ys
-times-cons x y ys = sum_by-cons (λ y. cond (y == x) 1 0) y ys
-
-pub times-append : (x : ℕ) (xs ys : List ℕ) → times x (xs ++ ys) ≡ times x xs + times x ys
-times-append x xs ys = sum_by-append (λ y. cond (y == x) 1 0) xs ys
-
-pub times_at : (x : ℕ) (xs : List ℕ) → times x (x ∷ xs) ≡ 1 + times x xs
-times_at x xs = omega (arith, times-cons x x xs, ap {B = ℕ} (λ b. cond b 1 0) (eq-eqb x x refl))
-
-pub times_past : (x y : ℕ) (xs : List ℕ) → y ≢ x → times x (y ∷ xs) ≡ times x xs
-times_past x y xs ne = omega (arith, times-cons x y xs, ap {B = ℕ} (λ b. cond b 1 0) (ne_eqb y x ne))
+use Rattle.link_lists.proofs.Times.{times-cons, times_at, times_past}
 
 -- the last of a list stands in it
 pub times_last : (x : ℕ) (xs : List ℕ) (n : ℕ) → last_or (Some x) xs ≡ Some n → 1 ≤ times n (x ∷ xs)

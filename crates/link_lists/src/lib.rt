@@ -15,6 +15,3 @@ pub mod nodes;
 pub use chain::Chain;
 pub use laws::a_chain_is_one_list;
 pub use nodes::{Nodes, OutOfMemory};
-
-#[cfg(test)]
-mod tests;

@@ -1,17 +1,19 @@
 -- The frames of the list stay apart and below the room, and there is room for a new one.
-use Rattle.std.proofs.Common.{◌≡◌, ◌≢◌, ◌∙◌, ◌+◌, ◌<◌, ◌≤◌, ◌==◌, ℕ, suc, zero, Bool, true, false, not, cond, eqb, List, [], ◌∷◌, inl, inr, length, get_or, Some, refl, sym, ap, subst, arith}
-use Rattle.std.specs.Prelude.{map, All, slice_get}
-use Rattle.std.proofs.lemmas.Option.{get_or_from_slice_get, slice_get_within}
+use Rattle.std.proofs.Common.{◌≡◌, ◌≢◌, ◌∙◌, ◌+◌, ◌<◌, ◌≤◌, ◌==◌, ℕ, suc, zero, Bool, true, false, not, cond, eqb, List, [], ◌∷◌, inl, inr, length, get_or, None, refl, sym, ap, subst, arith}
+use Rattle.std.specs.Prelude.{map, remove, All}
 use Rattle.std.specs.List.{IsDistinct, list_any}
 use Rattle.std.proofs.lemmas.List.{length-map}
 use Rattle.std.proofs.lemmas.List.Elements.{All-map, All-cons, recursion_from_All}
-use Rattle.std.proofs.lemmas.List.Sums.{sum_by-cons}
+use Rattle.std.proofs.lemmas.List.Sums.{sum_by-cons, passes_at_first}
 use Rattle.std.proofs.lemmas.Map.Steps.{length-le_from_distinct_below}
 use Rattle.std.proofs.lemmas.Bool.{eqb-true, ne_eqb, eq-eqb, cases_eq, cases_lt, false≢true, or_cases}
 use Rattle.page_ids.specs.Midpoint.{Listed, place_of, count_of, read_in, touch, evict, relocate}
 use Rattle.page_ids.proofs.midpoint.Counts.{count-read_in, count-touch, count-evict, count-relocate, count_from_place, none_listed}
 use Rattle.midpoint_lru.specs.View.{View, Has, IsNew}
 use Rattle.midpoint_lru.specs.Inside.{AreFrames}
+
+abbrev pub blank : Listed ℕ
+blank = record { key = 0; first = None; since = 0 }
 
 abbrev times : ℕ → List (Listed ℕ) → ℕ
 times f xs = count_of (λ k. k == f) xs
@@ -97,6 +99,22 @@ all_below v h k d l = elim (cases_lt (get_or v.order.listed k d).key v.room) [
   | inr past ↦ absurd (omega (arith, h.below _ past, count_from_place (λ j. j == (get_or v.order.listed k d).key) v.order.listed k d l (eq-eqb _ _ refl)))
 ]
 
+-- a listed frame is below the room
+pub below_there : (v : View) (key : ℕ) → AreFrames v → Has v key → key < v.room
+below_there v key h there = elim (cases_lt key v.room) [
+  | inl less ↦ less
+  | inr past ↦ absurd (omega (arith, h.below key past, count_from_place (λ k. k == key) v.order.listed (place_of ◌==◌ key v.order.listed) blank there (passes_at_first (λ (x : Listed ℕ). x.key == key) v.order.listed blank there)))
+]
+
+-- and where it goes out, it is listed no more
+pub out_after : (v : View) (key : ℕ) → AreFrames v → Has v key
+    → let xs = remove v.order.listed (place_of ◌==◌ key v.order.listed) in ¬ (place_of ◌==◌ key xs < length xs)
+out_after v key h there l =
+    let xs = remove v.order.listed (place_of ◌==◌ key v.order.listed) in
+    let count = count-evict ◌==◌ (λ k. k == key) key v.order (alike key key) there in
+    let some = count_from_place (λ k. k == key) xs (place_of ◌==◌ key xs) blank l (passes_at_first (λ (x : Listed ℕ). x.key == key) xs blank l) in
+    absurd (omega (arith, count, own key, h.once key, some))
+
 -- there is room for a new frame
 pub few_listed : (v : View) (key : ℕ) → AreFrames v → IsNew v key → length v.order.listed < v.room
 unfolding IsDistinct
@@ -108,26 +126,3 @@ few_listed v key h new =
     let all = All-cons (λ k. k < v.room) key keys new.room (All-map (λ k. k < v.room) (λ (y : Listed ℕ). y.key) xs (all_below v h)) in
     let le = length-le_from_distinct_below (key ∷ keys) v.room (apart, distinct_from_counts xs h.once) (λ q a. below_from_any v.room q (key ∷ keys) all a) in
     omega (arith, le, length-map xs (λ (y : Listed ℕ). y.key))
-
-zero_fails : (b : Bool) → cond {A = ℕ} b 1 0 ≡ 0 → b ≡ false
-zero_fails true e = absurd (omega arith)
-zero_fails false e = refl
-
--- a frame that is listed at most once is found where it stands
-pub own_place : (xs : List (Listed ℕ)) (i : ℕ) (d : Listed ℕ) → times (get_or xs i d).key xs ≤ 1 → i < length xs → place_of ◌==◌ (get_or xs i d).key xs ≡ i
-own_place [] i d once l = absurd (omega arith)
-own_place (x ∷ xs) zero d once l = ap {B = ℕ} (λ b. cond (not b) (1 + place_of ◌==◌ x.key xs) 0) (eq-eqb x.key x.key refl)
-own_place (x ∷ xs) (suc i) d once l =
-    let key = (get_or xs i d).key in
-    let here : i < length xs = omega arith in
-    let c = sum_by-cons (λ (y : Listed ℕ). cond (y.key == key) 1 0) x xs in
-    let least = count_from_place (λ k. k == key) xs i d here (eq-eqb key key refl) in
-    let fails : cond {A = ℕ} (x.key == key) 1 0 ≡ 0 = omega (arith, c, once, least) in
-    let rest = own_place xs i d (omega (arith, c, once)) here in
-    ap {B = ℕ} (λ b. cond (not b) (1 + place_of ◌==◌ key xs) 0) (zero_fails (x.key == key) fails) ∙ ap {B = ℕ} (λ k. 1 + k) rest ∙ omega arith
-
--- so who stands at a place is found there
-pub found_there : (v : View) (i : ℕ) (x : Listed ℕ) → AreFrames v → slice_get v.order.listed i ≡ Some x → place_of ◌==◌ x.key v.order.listed ≡ i
-found_there v i x h e =
-    let at = get_or_from_slice_get v.order.listed i x x e in
-    ap (λ (y : Listed ℕ). place_of ◌==◌ y.key v.order.listed) (sym at) ∙ own_place v.order.listed i x (h.once _) (slice_get_within v.order.listed i x e)

@@ -1,3 +1,5 @@
-pub mod Nodes
 pub mod Frames
-pub mod Views
+pub mod Listed
+pub mod Steps
+pub mod Kept
+pub mod Rules

@@ -1,10 +1,10 @@
 //! The list, and its calls.
-ghost use Rattle.std.specs.Prelude.{◌≡◌, ◌==◌, ◌+◌, ◌<◌, ◌≤◌, ◌^◌, if◌then◌else◌, max, length, insert, slice_get};
-ghost use Rattle.std.specs.Prelude.{vec_len, vec_capacity, Some, IfSome, unwrap_or, OnOk, OnErr};
-ghost use Rattle.std.specs.Option.{option_map};
+ghost use Rattle.std.specs.Prelude.{◌≡◌, ◌==◌, ◌+◌, ◌<◌, ◌≤◌, ◌^◌, ℕ, not, nat_lt, if◌then◌else◌, max, length, IfSome, IsOk, OnOk, OnErr};
 ghost use Rattle.page_ids.specs.Midpoint as rule;
+ghost use Rattle.page_ids.specs.Midpoint.{Listed};
 ghost use Rattle.midpoint_lru.specs.View.{Has, IsNew, place_up_to, next_up};
 
+use crate::sublists::{Member, Sublists};
 use page_ids::OutOfMemory;
 use std::alloc::Global;
 use std::marker::Model;
@@ -18,22 +18,15 @@ pub enum Touch {
     Young,
 }
 
-/// A frame of the list.
-#[derive(Clone, Copy, Debug)]
-struct Node {
-    frame: u32,
-    /// The moment of its page's first access, in milliseconds.
-    first: Option<u64>,
-    /// How many evictions there had been when it was put in or last moved to the head.
-    since: u64,
-}
-
 /// The frames of an instance's resident pages, the head first (buf0lru's `LRU` list).
+///
+/// No call but `grow` takes memory, and each touches the named frames and their neighbours. The old length moves by one at
+/// most, and with it one frame beside the first old one. It jumps only where the list reaches `min` or falls below: then the
+/// old sublist is set up from the tail, or given up, and each of its frames is touched once.
 #[derive(Debug, Drop)]
 pub struct Lru {
-    listed: Vec<Node>,
+    parts: Sublists,
     evicts: u64,
-    room: u32,
     pct: u32,
     time: u64,
     min: u32,
@@ -51,9 +44,6 @@ impl Model for Lru {
     ghost invariant = { IsKept };
 }
 
-#[cfg(test)]
-mod tests;
-
 impl Lru {
     /// The empty list. The old sublist has `pct` percent of a list of at least `min` frames, 0 to 100, and none of a shorter one;
     /// a page stays old for `time` milliseconds after its first access.
@@ -63,25 +53,21 @@ impl Lru {
             record { numbers = record { pct = pct; time = time; min = min }; order = rule.empty_order; room = 0 } }
     {
         Lru {
-            listed: Vec::new(alloc),
+            parts: Sublists::new(alloc),
             evicts: 0,
-            room: 0,
             pct,
             time,
             min,
         }
     }
 
-    /// Makes room for the frames below `frames`. There is never less room than before.
+    /// Makes room for the frames below `frames`. There is never less room than before. Where there is as much, no memory is taken.
     pub fn grow(&mut self, frames: u32) -> Result<(), OutOfMemory>
         ensures ok { OnOk result (self.new ≡ record self.old { room = max self.old.room frames }) }
         ensures err { OnErr result (self.new ≡ self.old) }
+        ensures had { frames ≤ self.old.room → IsOk result }
     {
-        if self.room < frames {
-            let more = frames as usize - self.listed.len();
-            self.listed.try_reserve(more)?;
-            self.room = frames;
-        }
+        self.parts.grow(frames)?;
         Ok(())
     }
 
@@ -90,76 +76,21 @@ impl Lru {
         ensures len { result ≡ length self.now.order.listed }
         ensures few { result ≤ self.now.room }
     {
-        self.listed.len() as u32
+        self.parts.len()
     }
 
-    fn old_length(&self) -> usize
-        ensures old { result ≡ rule.old_length self.now.numbers (length self.now.order.listed) }
-        ensures within { result ≤ length self.now.order.listed }
+    /// Whether a touch of this frame at the moment `now` moves it to the head.
+    fn moves(&self, member: Member, now: u64) -> bool
+        ensures { (i : ℕ) (x : Listed ℕ) → member.first ≡ x.first → member.since ≡ x.since
+            → member.is_old ≡ not (nat_lt i (rule.young_length self.now.numbers (length self.now.order.listed)))
+            → result ≡ rule.moves self.now.numbers now self.now.order i x }
     {
-        let len = self.listed.len();
-        if self.min as usize <= len {
-            (len as u64 * u64::from(self.pct) / 100) as usize
+        if member.is_old {
+            self.time == 0 || has_waited(self.time, member.first, now)
         } else {
-            0
+            let young = self.parts.len() - self.parts.old_len();
+            u64::from(young) <= 4 * self.evicts.saturating_sub(member.since)
         }
-    }
-
-    /// The place at which the next frame is put in.
-    fn midpoint(&self) -> usize
-        ensures at { result ≡ rule.midpoint self.now.numbers (length self.now.order.listed) }
-        ensures within { result ≤ length self.now.order.listed }
-    {
-        let old = self.old_length();
-        if old == 0 { 0 } else { self.listed.len() - old }
-    }
-
-    /// Whether a touch of the frame at this place moves it to the head.
-    fn moves(&self, at: usize, now: u64) -> bool
-        requires { at < length self.now.order.listed }
-        ensures { IfSome (slice_get self.now.order.listed at)
-            (λ x. result ≡ rule.moves self.now.numbers now self.now.order at x) }
-    {
-        let young = self.listed.len() - self.old_length();
-        let node = self.listed[at];
-        if at < young {
-            young as u64 <= 4 * self.evicts.saturating_sub(node.since)
-        } else {
-            self.time == 0 || has_waited(self.time, node.first, now)
-        }
-    }
-
-    /// The place of a frame, and the length where it isn't listed.
-    fn place(&self, frame: u32) -> usize
-        ensures { result ≡ rule.place_of ◌==◌ frame self.now.order.listed }
-    {
-        for (i, x) in self.listed.iter().enumerate() {
-            if x.frame == frame {
-                return i;
-            }
-        }
-        self.listed.len()
-    }
-
-    /// The place of a frame, and for none the one behind the tail.
-    fn place_up_to(&self, after: Option<u32>) -> usize
-        requires { IfSome after (λ frame. Has self.now frame) }
-        ensures at { result ≡ place_up_to after self.now.order.listed }
-        ensures within { result ≤ length self.now.order.listed }
-    {
-        match after {
-            None => self.listed.len(),
-            Some(frame) => self.place(frame),
-        }
-    }
-
-    /// The frame at a place.
-    fn frame_at(&self, at: usize) -> u32
-        requires { at < length self.now.order.listed }
-        ensures frame { option_map (λ x. x.key) (slice_get self.now.order.listed at) ≡ Some result }
-        ensures place { rule.place_of ◌==◌ result self.now.order.listed ≡ at }
-    {
-        self.listed[at].frame
     }
 
     /// Puts in a frame whose page was read in or created: at the midpoint.
@@ -167,14 +98,9 @@ impl Lru {
         requires { IsNew self.old frame }
         ensures { self.new ≡ record self.old { order = rule.read_in self.old.numbers frame self.old.order } }
     {
-        let at = self.midpoint();
-        let since = self.evicts;
-        let node = Node {
-            frame,
-            first: None,
-            since,
-        };
-        put(&mut self.listed, at, node);
+        self.parts.put_between(frame, self.evicts);
+        let old = old_length(self.pct, self.min, self.parts.len());
+        self.parts.settle(old);
     }
 
     /// Touches a frame at the moment `now`, in milliseconds, and answers whether that moved it to the head.
@@ -184,15 +110,16 @@ impl Lru {
         ensures answer { result ≡
             (if rule.becomes_young ◌==◌ self.old.numbers frame now self.old.order then Touch.Young else Touch.Stayed) }
     {
-        let at = self.place(frame);
-        let node = self.listed[at];
-        if self.moves(at, now) {
-            let node = touched(node, now, self.evicts);
-            self.listed.remove(at);
-            put(&mut self.listed, 0, node);
+        let member = self.parts.member(frame);
+        let first = Some(member.first.unwrap_or(now));
+        if self.moves(member, now) {
+            self.parts.take(frame);
+            self.parts.put_first(frame, first, self.evicts);
+            let old = old_length(self.pct, self.min, self.parts.len());
+            self.parts.settle(old);
             Touch::Young
         } else {
-            self.listed[at] = touched(node, now, node.since);
+            self.parts.set_first(frame, first);
             Touch::Stayed
         }
     }
@@ -203,9 +130,10 @@ impl Lru {
         requires few { self.old.order.evicts < 2 ^ 48 }
         ensures { self.new ≡ record self.old { order = rule.evict ◌==◌ frame self.old.order } }
     {
-        let at = self.place(frame);
-        self.listed.remove(at);
+        self.parts.take(frame);
         self.evicts += 1;
+        let old = old_length(self.pct, self.min, self.parts.len());
+        self.parts.settle(old);
     }
 
     /// Puts the frame `new` in the place of `old`, whose page moved there.
@@ -214,9 +142,7 @@ impl Lru {
         requires new { IsNew self.old new }
         ensures { self.new ≡ record self.old { order = rule.relocate ◌==◌ old new self.old.order } }
     {
-        let at = self.place(old);
-        let node = self.listed[at];
-        self.listed[at] = in_frame(node, new);
+        self.parts.replace(old, new);
     }
 
     /// The tail, or the frame next to `after` towards the head, which stands one place before it.
@@ -226,11 +152,7 @@ impl Lru {
         ensures step { IfSome result (λ frame.
             rule.place_of ◌==◌ frame self.now.order.listed + 1 ≡ place_up_to after self.now.order.listed) }
     {
-        let at = self.place_up_to(after);
-        if at == 0 {
-            return None;
-        }
-        Some(self.frame_at(at - 1))
+        self.parts.walk(after)
     }
 }
 
@@ -244,34 +166,15 @@ fn has_waited(time: u64, first: Option<u64>, now: u64) -> bool
     }
 }
 
-/// A node behind a touch, with its measure from then on. The first touch is its first access.
-fn touched(node: Node, now: u64, since: u64) -> Node
-    ensures { result ≡ record { frame = node.frame; first = Some (unwrap_or node.first now); since = since } }
+/// How many of so many frames are old.
+fn old_length(pct: u32, min: u32, len: u32) -> u32
+    requires { pct ≤ 100 }
+    ensures old { (time : ℕ) → result ≡ rule.old_length (record { pct = pct; time = time; min = min }) len }
+    ensures within { result ≤ len }
 {
-    let first = Some(node.first.unwrap_or(now));
-    Node {
-        first,
-        since,
-        ..node
-    }
-}
-
-/// A node whose page is in another frame.
-fn in_frame(node: Node, frame: u32) -> Node
-    ensures { result ≡ record { frame = frame; first = node.first; since = node.since } }
-{
-    Node { frame, ..node }
-}
-
-/// Puts a node in at a place, where there is room for it.
-fn put(listed: &mut Vec<Node>, at: usize, node: Node)
-    requires at { at ≤ vec_len listed.old }
-    requires room { vec_len listed.old < vec_capacity listed.old }
-    ensures items { listed.new.items ≡ insert listed.old.items at node }
-    ensures room { vec_capacity listed.old ≤ vec_capacity listed.new }
-{
-    match listed.insert(at, node) {
-        Ok(()) => {}
-        Err(_) => unreachable!(),
+    if min <= len {
+        (u64::from(len) * u64::from(pct) / 100) as u32
+    } else {
+        0
     }
 }

@@ -1,5 +1,5 @@
 -- What a disk of pages tells.
-use Rattle.std.specs.Prelude.{ℕ, Bool, false, List, ◌≡◌, ◌<◌, ◌≤◌, Option, Some, IfSome, IsSomeAnd, unwrap_or}
+use Rattle.std.specs.Prelude.{ℕ, Bool, false, List, ◌≡◌, ◌<◌, ◌≤◌, Option, None, Some, IfSome, IsSomeAnd, unwrap_or}
 use Rattle.page_ids.specs.Same.{same_page}
 use Rattle.page_ids.specs.declared.ids.PageId.{PageId}
 
@@ -15,20 +15,30 @@ IsInside spaces p = IsSomeAnd (spaces p.space) (λ n. p.page < n)
 abbrev pub Fades : Option (List ℕ) → Option (List ℕ) → Type 0
 Fades old new = IfSome new (λ bytes. old ≡ Some bytes)
 
+-- what a disk of pages tells of itself: the bytes of each page, whether it tells what pages hold, the bytes of each page where they are told,
+-- how many pages each space has, how often it failed, and whether nothing was written since the last sync that was done
+pub record DiskSeen : Type 0 where
+  pub size : ℕ
+  pub tells : Bool
+  pub told : PageId → Option (List ℕ)
+  pub spaces : ℕ → Option ℕ
+  pub faults : ℕ
+  pub synced : Bool
+
 -- the disk is as before: page size, whether it tells, told pages and spaces; and its count of faults did not fall
-pub record IsSameDisk {D : Type 0} (size : D → ℕ) (tells : D → Bool) (told : D → PageId → Option (List ℕ))
-    (spaces : D → ℕ → Option ℕ) (faults : D → ℕ) (old new : D) : Type 0 where
-  pub sizes : size new ≡ size old
-  pub telling : tells new ≡ tells old
-  pub bytes : (p : PageId) → told new p ≡ told old p
-  pub spaces_are : (space : ℕ) → spaces new space ≡ spaces old space
-  pub later : faults old ≤ faults new
+pub record IsSameDisk (old new : DiskSeen) : Type 0 where
+  pub sizes : new.size ≡ old.size
+  pub telling : new.tells ≡ old.tells
+  pub bytes : (p : PageId) → new.told p ≡ old.told p
+  pub spaces_are : (space : ℕ) → new.spaces space ≡ old.spaces space
+  pub later : old.faults ≤ new.faults
 
 -- the disk is as before but for what it tells of one page; and its count of faults did not fall
-pub record IsOtherwiseSame {D : Type 0} (size : D → ℕ) (tells : D → Bool) (told : D → PageId → Option (List ℕ))
-    (spaces : D → ℕ → Option ℕ) (faults : D → ℕ) (p : PageId) (old new : D) : Type 0 where
-  pub sizes : size new ≡ size old
-  pub telling : tells new ≡ tells old
-  pub bytes : (q : PageId) → same_page p q ≡ false → told new q ≡ told old q
-  pub spaces_are : (space : ℕ) → spaces new space ≡ spaces old space
-  pub later : faults old ≤ faults new
+pub record IsOtherwiseSame (p : PageId) (old new : DiskSeen) : Type 0 where
+  pub sizes : new.size ≡ old.size
+  pub telling : new.tells ≡ old.tells
+  pub bytes : (q : PageId) → same_page p q ≡ false → new.told q ≡ old.told q
+  pub spaces_are : (space : ℕ) → new.spaces space ≡ old.spaces space
+  -- one that does not tell tells of no page
+  pub silent : new.tells ≡ false → new.told p ≡ None
+  pub later : old.faults ≤ new.faults

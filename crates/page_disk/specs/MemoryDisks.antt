@@ -10,7 +10,7 @@ use Rattle.page_ids.specs.declared.ids.PageSize.{PageSize}
 use Rattle.redo_mark.specs.Device.{Told, IsAsOpened}
 use Rattle.redo_mark.specs.Memory.{Counts}
 use Rattle.redo_mark.specs.declared.memory.RedoMemory.{RedoMemory}
-use Rattle.page_disk.specs.Disks.{pages_in}
+use Rattle.page_disk.specs.Disks.{DiskSeen, pages_in}
 use Rattle.page_disk.specs.Shelves.{Asked}
 
 -- the bytes that are kept of a page, and whether its last write failed behind the first half
@@ -90,6 +90,9 @@ bytes_of d p = bytes_in (size_of d) (kept_of d.kept p)
 -- every page of its spaces is told but the torn ones
 abbrev pub told_of : DiskMemory → PageId → Option (List ℕ)
 told_of d p = if nat_lt p.page (pages_in (spaces_of d) p.space) then told_in (size_of d) (kept_of d.kept p) else None
+
+abbrev pub disk_seen : DiskMemory → DiskSeen
+disk_seen d = record { size = size_of d; tells = tells_of d; told = told_of d; spaces = spaces_of d; faults = faults_of d; synced = synced_of d }
 
 -- the disks and the log that it will hand out, and how it was called
 pub record MemoryShelf : Type 0 where

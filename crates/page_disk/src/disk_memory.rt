@@ -7,7 +7,7 @@ ghost use Rattle.page_ids.specs.declared.ids.PageId.{PageId};
 ghost use Rattle.page_disk.specs.Disks.{IsInside, IsSameDisk, IsOtherwiseSame, Fades};
 ghost use Rattle.page_disk.specs.Calls.{IsListed, IsCalled, answered, failed, starved, uncalled};
 ghost use Rattle.page_disk.specs.MemoryDisks.{HasSize, IsKept, contents_of, kept_of, pages_of, whole, half_over};
-ghost use Rattle.page_disk.specs.MemoryDisks.{size_of, tells_of, told_of, bytes_of, bytes_in, spaces_of, faults_of, synced_of};
+ghost use Rattle.page_disk.specs.MemoryDisks.{disk_seen, size_of, tells_of, told_of, bytes_of, bytes_in, spaces_of, faults_of, synced_of};
 
 use crate::calls::begin;
 use crate::disk::PageDisk;
@@ -172,19 +172,9 @@ fn put_len(listed: bool, len: usize) -> usize
 }
 
 impl PageDisk for DiskMemory {
-    ghost use Rattle.page_disk.specs.MemoryDisks.{size_of, tells_of, told_of, spaces_of, faults_of, synced_of};
+    ghost use Rattle.page_disk.specs.MemoryDisks.{disk_seen};
 
-    ghost page_size = { size_of };
-
-    ghost tells = { tells_of };
-
-    ghost told = { told_of };
-
-    ghost space_pages = { spaces_of };
-
-    ghost fault_count = { faults_of };
-
-    ghost synced = { synced_of };
+    ghost seen = { disk_seen };
 
     ghost silent = { λ d p silent. absurd Prim.cc };
 
@@ -194,7 +184,7 @@ impl PageDisk for DiskMemory {
         requires inside { IsInside (spaces_of self.old) page }
         requires size { length out.old ≡ size_of self.old }
         ensures bytes { OnOk result (IfSome (told_of self.old page) (λ bytes. out.new ≡ bytes)) }
-        ensures same { IsSameDisk size_of tells_of told_of spaces_of faults_of self.old self.new }
+        ensures same { IsSameDisk (disk_seen self.old) (disk_seen self.new) }
         ensures cause { IsCounted (faults_of self.old) (faults_of self.new) result }
         ensures exact { IsErr result ↔ IsListed self.old.calls }
         ensures unwritten { synced_of self.new ≡ synced_of self.old }
@@ -225,7 +215,7 @@ impl PageDisk for DiskMemory {
         requires covered { lsn ≤ covered.now }
         ensures written { OnOk result (IsTrue (tells_of self.old) → told_of self.new page ≡ Some bytes.now) }
         ensures failed { OnErr result (Fades (told_of self.old page) (told_of self.new page)) }
-        ensures others { IsOtherwiseSame size_of tells_of told_of spaces_of faults_of page self.old self.new }
+        ensures others { IsOtherwiseSame page (disk_seen self.old) (disk_seen self.new) }
         ensures cause { IsCounted (faults_of self.old) (faults_of self.new) result }
         ensures unsynced { synced_of self.new ≡ false }
         ensures ok { OnOk result ((¬ (IsListed self.old.calls)) × (self.new.calls ≡ answered self.old.calls)
@@ -251,7 +241,7 @@ impl PageDisk for DiskMemory {
     /// Fails exactly where the call is listed.
     #[tactic(auto, using(crate::proofs::Counts::counted, crate::proofs::Counts::same_disk))]
     fn sync(&mut self) -> Result<(), Failed>
-        ensures same { IsSameDisk size_of tells_of told_of spaces_of faults_of self.old self.new }
+        ensures same { IsSameDisk (disk_seen self.old) (disk_seen self.new) }
         ensures cause { IsCounted (faults_of self.old) (faults_of self.new) result }
         ensures synced { OnOk result (IsTrue (synced_of self.new)) }
         ensures failed { OnErr result (self.new.synced ≡ self.old.synced) }

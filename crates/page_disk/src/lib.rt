@@ -26,6 +26,3 @@ pub use shelf::{FaultAt, Shelf};
 pub use sink_memory::SinkMemory;
 pub use source_memory::SourceMemory;
 pub use stream::{Sink, Source};
-
-#[cfg(test)]
-mod tests;

@@ -50,12 +50,12 @@ pub trait Shelf {
 
     /// Hands out the disk of an instance, of the page size of `config`; asked for in rising instance.
     fn disk(&mut self, config: &Config, instance: u16) -> Result<Self::Disk, Failed>
-        ensures size { IfOk result (λ disk. Self.Disk.page_size disk ≡ page_bytes config.now.page) }
-        ensures told { IfOk result (λ disk. (p : PageId) → Self.Disk.told disk p ≡ disk_told self.old 0 p) }
+        ensures size { IfOk result (λ disk. (Self.Disk.seen disk).size ≡ page_bytes config.now.page) }
+        ensures told { IfOk result (λ disk. (p : PageId) → (Self.Disk.seen disk).told p ≡ disk_told self.old 0 p) }
         ensures spaces { IfOk result (λ disk. IfSome (disk_spaces self.old 0)
-            (λ spaces. (s : ℕ) → Self.Disk.space_pages disk s ≡ spaces s)) }
+            (λ spaces. (s : ℕ) → (Self.Disk.seen disk).spaces s ≡ spaces s)) }
         ensures faults { IfOk result (λ disk. IfSome (disk_faults self.old 0)
-            (λ n. Self.Disk.fault_count disk ≡ n)) }
+            (λ n. (Self.Disk.seen disk).faults ≡ n)) }
         ensures next { OnOk result ((n : ℕ) → (disk_told self.new n ≡ disk_told self.old (n + 1))
             × (disk_spaces self.new n ≡ disk_spaces self.old (n + 1))
             × (disk_faults self.new n ≡ disk_faults self.old (n + 1))) }

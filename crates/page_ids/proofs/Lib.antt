@@ -6,3 +6,5 @@ pub mod Encoded
 pub mod Pages
 pub mod Packed
 pub mod midpoint
+pub mod Numbers
+pub mod Cuts

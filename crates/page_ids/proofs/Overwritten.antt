@@ -59,7 +59,7 @@ stamped_place : (size k : ℕ) → is_stamped size k ≡ true → (k < 38) ⊎ (
 stamped_place size k is = grind (arith, nat_tests)
 
 -- a change of the body leaves what is stamped
-pub blanked_patched : (at : ℕ) (piece bytes : List ℕ) → IsBlanked bytes → IsRange bytes at (length piece) → IsBlanked (over at piece bytes)
+pub blanked_patched : (at : ℕ) (piece bytes : List ℕ) → IsBlanked bytes → IsRange (length bytes) at (length piece) → IsBlanked (over at piece bytes)
 blanked_patched at piece bytes blanked range = record {
   size = omega (arith, same, blanked.size);
   stamped = λ k small stamped.

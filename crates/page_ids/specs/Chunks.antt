@@ -8,9 +8,13 @@ use Rattle.page_ids.specs.declared.ids.PageId.{PageId}
 abbrev pub unit_of : Config → ℕ
 unit_of c = page_bytes c.page * c.frames * c.instances
 
--- the chunks of an instance at the start: the size in units, rounded up
+-- the chunks that so many bytes take: whole ones, in units of every instance
+abbrev pub chunks_for : Config → ℕ → ℕ
+chunks_for c bytes = (bytes + unit_of c - 1) / unit_of c
+
+-- the chunks of an instance at the start
 abbrev pub chunks_of : Config → ℕ
-chunks_of c = (c.size + unit_of c - 1) / unit_of c
+chunks_of c = chunks_for c c.size
 
 -- so many numbers, rising from this one
 abbrev pub rising : ℕ → ℕ → List ℕ

@@ -4,7 +4,9 @@ pub mod Chunks
 pub mod Faults
 pub mod FrameWord
 pub mod Spelling
+pub mod Numerals
 pub mod Content
 pub mod Layout
 pub mod Refusal
 pub mod Midpoint
+pub mod Needs

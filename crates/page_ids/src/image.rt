@@ -55,7 +55,7 @@ impl Image {
 
     /// Copies bytes of the body, from `at` on, as many as `out` has. The range lies behind the header of 38 bytes and before the trailer of 8.
     pub fn copy_out(&self, at: u32, out: &mut [u8])
-        requires range { IsRange self.now.bytes at (length out.old) }
+        requires range { IsRange (length self.now.bytes) at (length out.old) }
         ensures { out.new ≡ slice_range self.now.bytes at (at + length out.old) }
     {
         let from = at as usize;
@@ -66,7 +66,7 @@ impl Image {
     /// Replaces bytes of the body from `at` on, and sets the LSN: that of the change's end in the log
     /// (InnoDB's `mlog_write_string`, and buf0flu's `newest_modification`). The range lies behind the header of 38 bytes and before the trailer of 8.
     pub fn patch(&mut self, at: u32, bytes: &[u8], lsn: u64)
-        requires range { IsRange self.old.bytes at (length bytes.now) }
+        requires range { IsRange (length self.old.bytes) at (length bytes.now) }
         ensures { self.new ≡ patched self.old at bytes.now lsn }
     {
         overwrite(&mut self.bytes, at as usize, bytes);
@@ -100,6 +100,3 @@ impl Image {
         copy_unstamped(bytes, &mut self.bytes);
     }
 }
-
-#[cfg(test)]
-mod tests;

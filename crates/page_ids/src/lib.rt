@@ -11,7 +11,9 @@ pub mod frame_word;
 pub mod ids;
 pub mod image;
 pub mod layout;
+pub mod limits;
 pub mod lists;
+pub mod numerals;
 pub mod writing;
 
 pub use config::Config;
@@ -20,8 +22,9 @@ pub use frame_word::{Word, a_step_leaves_a_packed_word, a_word_is_its_fields};
 pub use ids::{PageId, PageSize};
 pub use image::Image;
 pub use layout::{BadPage, decode};
+pub use limits::{
+    ANSWER_NEED, CREATE_NEED, FIX_NEED, GROWTH_NEED, LAST_LSN, LAST_PLACE, LIMIT, MOST_FIXES,
+    MOST_WATCHES, RECORD_BYTES,
+};
 pub use lists::{Bytes, Ids, Words};
 pub use writing::{a_page_has_one_image, an_image_has_one_page, encode};
-
-#[cfg(test)]
-mod tests;

@@ -4,18 +4,16 @@ use Rattle.std.specs.Prelude.{unwrap_or, IsSome}
 use Rattle.page_ids.specs.Content.{Content}
 use Rattle.page_ids.specs.Size.{page_bytes}
 use Rattle.page_ids.specs.declared.ids.PageId.{PageId}
-use Rattle.page_disk.specs.Disks.{pages_in}
+use Rattle.page_disk.specs.Disks.{DiskSeen, pages_in}
 use Rattle.page_disk.specs.declared.shelf.FaultAt.{FaultAt}
 use Rattle.redo_mark.specs.Device.{Told}
 use Rattle.redo_mark.specs.declared.redo.RedoEnd.{RedoEnd}
-use Rattle.trail.specs.Events.{Events}
+use Rattle.trail.specs.Trails.{Events, entries}
 use Rattle.trail.specs.History.{value}
-use Rattle.trail.specs.Places.{entries}
 use Rattle.trail.specs.Saved.{is_written, saved}
 use Rattle.desk.specs.Base.{IsBase}
 use Rattle.script_text.specs.Plan.{Plan}
 use Rattle.script_text.specs.Verdict.{IsScript, IsBad}
-use Rattle.script_run.specs.Work.{Senses}
 use Rattle.script_run.specs.Runs.{Handed, handed, start_of, Reports, IsEndedRun, IsLogOf, IsLogAsOpened, IsLongLog, IsSavedPage, IsValuedPage}
 use Rattle.script_run.proofs.Growing.{on_some}
 use Rattle.script_run.proofs.Progress.{append_nil}
@@ -33,12 +31,12 @@ told_base : (told was : PageId → Option (List ℕ)) (pages : ℕ → ℕ) (fir
 told_base told was pages first same is_base p inside = let given = is_base p inside in record { bytes = given.bytes; tells = same p ∙ given.tells; content = given.content }
 
 -- the run of what a shelf handed out, told by the shelf
-pub ended_run : {D R : Type 0} (sense : Senses D) (report : Reports R) (shelf : Handed) (disk : D) (log : R) (plan : Plan) (fault : Option FaultAt) (trails : List Events) (disks : List D) (redo : Option (RedoEnd R))
-    → IsEndedRun (handed (sense.told disk) (Some (sense.spaces disk)) (Some (sense.faults disk)) (report.told log) (Some (report.faults log))) sense report plan fault trails disks redo
-    → ((p : PageId) → sense.told disk p ≡ shelf.told p) → IfSome shelf.spaces (λ known. (s : ℕ) → sense.spaces disk s ≡ known s) → IfSome shelf.disk_faults (λ n. sense.faults disk ≡ n)
+pub ended_run : {D R : Type 0} (seen : D → DiskSeen) (report : Reports R) (shelf : Handed) (disk : D) (log : R) (plan : Plan) (fault : Option FaultAt) (trails : List Events) (disks : List D) (redo : Option (RedoEnd R))
+    → IsEndedRun (handed (seen disk).told (Some (seen disk).spaces) (Some (seen disk).faults) (report.told log) (Some (report.faults log))) seen report plan fault trails disks redo
+    → ((p : PageId) → (seen disk).told p ≡ shelf.told p) → IfSome shelf.spaces (λ known. (s : ℕ) → (seen disk).spaces s ≡ known s) → IfSome shelf.disk_faults (λ n. (seen disk).faults ≡ n)
     → report.told log ≡ shelf.log → IfSome shelf.log_faults (λ n. report.faults log ≡ n)
-    → IsEndedRun shelf sense report plan fault trails disks redo
-ended_run {D} {R} sense report shelf disk log plan fault trails disks redo is tells spaces faults log_is log_faults =
+    → IsEndedRun shelf seen report plan fault trails disks redo
+ended_run {D} {R} seen report shelf disk log plan fault trails disks redo is tells spaces faults log_is log_faults =
     let W : Option Told → Type 0 = λ t. IsLogOf plan.config.lsn t report is.end fault (entries (reverse is.trail.events)) in
     record {
       trail = is.trail;
@@ -47,18 +45,18 @@ ended_run {D} {R} sense report shelf disk log plan fault trails disks redo is te
       trails_are = is.trails_are;
       disks_are = is.disks_are;
       log_is = is.log_is;
-      run = λ base based. is.run base (on_some base _ _ (λ first e is_base. told_base (sense.told disk) shelf.told (pages_in (sense.spaces is.disk)) first tells is_base) based);
-      faults = faults_wider (start_of shelf) (record { told = sense.told disk; disk_faults = sense.faults disk; log_faults = report.faults log }) (sense.faults is.disk) (report.faults is.end.disk) (sense.faults is.disk) (report.faults is.end.disk) _
-          (record { disk = low_end shelf.disk_faults (sense.faults disk) faults; log = low_end shelf.log_faults (report.faults log) log_faults }) (omega arith) (omega arith) is.faults;
+      run = λ base based. is.run base (on_some base _ _ (λ first e is_base. told_base (seen disk).told shelf.told (pages_in (seen is.disk).spaces) first tells is_base) based);
+      faults = faults_wider (start_of shelf (pages_in (seen is.disk).spaces)) (record { told = (seen disk).told; pages = pages_in (seen is.disk).spaces; disk_faults = (seen disk).faults; log_faults = report.faults log }) (seen is.disk).faults (report.faults is.end.disk) (seen is.disk).faults (report.faults is.end.disk) _
+          (record { disk = low_end shelf.disk_faults (seen disk).faults faults; log = low_end shelf.log_faults (report.faults log) log_faults }) (omega arith) (omega arith) is.faults;
       spaces_are = on_some shelf.spaces _ _ (λ known e here s. is.spaces_are s ∙ here s) spaces;
       holds = λ base is_base.
-          let held = is.holds base (told_base (sense.told disk) shelf.told (pages_in (sense.spaces is.disk)) base tells is_base) in
+          let held = is.holds base (told_base (seen disk).told shelf.told (pages_in (seen is.disk).spaces) base tells is_base) in
           let h = entries (reverse is.trail.events) in
           let size = page_bytes plan.config.page in
           record {
-            saved = λ p inside. on_some (sense.told is.disk p) _ _ (λ bytes e page. let P : Option (List ℕ) → Type 0 = λ t. IsSavedPage (is_written h p) t (saved size base h p) p bytes in subst P (tells p) page) (held.saved p inside);
+            saved = λ p inside. on_some ((seen is.disk).told p) _ _ (λ bytes e page. let P : Option (List ℕ) → Type 0 = λ t. IsSavedPage (is_written h p) t (saved size base h p) p bytes in subst P (tells p) page) (held.saved p inside);
             told = λ p inside clean there. let S : Option (List ℕ) → Type 0 = λ t. IsSome t in held.told p inside clean (subst S (sym (tells p)) there);
-            whole = λ fine p inside. on_some (sense.told is.disk p) _ _ (λ bytes e page. let P : Option (List ℕ) → Type 0 = λ t. IsValuedPage t (value size base h p) p bytes in subst P (tells p) page) (held.whole fine p inside);
+            whole = λ fine p inside. on_some ((seen is.disk).told p) _ _ (λ bytes e page. let P : Option (List ℕ) → Type 0 = λ t. IsValuedPage t (value size base h p) p bytes in subst P (tells p) page) (held.whole fine p inside);
           };
       logs = subst W log_is is.logs;
     }

@@ -3,7 +3,8 @@ use Rattle.std.proofs.Common.{◌≡◌, ℕ, Bool, cond, List, [], ◌∷◌, �
 use Rattle.page_ids.specs.Size.{page_bytes}
 use Rattle.page_ids.specs.declared.config.Config.{Config}
 use Rattle.page_ids.specs.declared.ids.PageId.{PageId}
-use Rattle.page_disk.specs.Disks.{pages_in}
+use Rattle.page_ids.specs.declared.limits.TheConstants.{CREATE_NEED}
+use Rattle.page_disk.specs.Disks.{DiskSeen, pages_in}
 use Rattle.redo_mark.specs.Logs.{Seen}
 use Rattle.trail.specs.declared.event.Entry.{Entry}
 use Rattle.trail.specs.declared.event.Event.{Event}
@@ -13,7 +14,7 @@ use Rattle.trail.specs.declared.event.Cause.TheVariants as cause
 use Rattle.trail.specs.declared.event.Kind.TheVariants as kind
 use Rattle.trail.specs.Dirt.{log_end}
 use Rattle.trail.specs.History.{home}
-use Rattle.trail.specs.Opening.{Opening}
+use Rattle.trail.specs.Trails.{Opening}
 use Rattle.frame_words.specs.Plain.{Plain}
 use Rattle.frame_words.specs.Rows.{Row}
 use Rattle.desk.specs.State.{State}
@@ -25,11 +26,11 @@ use Rattle.desk.specs.declared.calls.CreateErr.{CreateErr}
 use Rattle.desk.specs.declared.calls.CreateErr.TheVariants as refusal
 use Rattle.script_text.specs.declared.script.Command.TheVariants as command
 use Rattle.script_run.specs.Openings.{Start}
-use Rattle.script_run.specs.Work.{Senses, Working, SoFar, Does, Along, AreHeld, AreHoused, RefusesCreate, with_answer}
+use Rattle.script_run.specs.Work.{Working, SoFar, Does, Along, AreHeld, AreHoused, RefusesCreate, with_answer}
 use Rattle.script_run.proofs.Fixing.{Fixes, moves_of, refused, fewer}
 use Rattle.script_run.proofs.Fixes.{same_self}
 use Rattle.script_run.proofs.Framing.{held_with}
-use Rattle.script_run.proofs.Growing.{me}
+use Rattle.script_run.proofs.Growing.{me, room_of}
 use Rattle.script_run.proofs.Staying.{Stays, stays_at, stays_load, stays_had}
 use Rattle.script_run.proofs.Along.{along_of, along_refused, along_unread}
 use Rattle.script_run.proofs.Making.{does_made, create_outside, create_full, create_resident, create_unseated, create_uncovered, create_unwritten, create_spent}
@@ -58,67 +59,67 @@ stays_made {D} {rows} {more} had new w p now start g made was =
     stays_at had.config new.config (e ∷ had.history) new.history more (x ∷ w.fixed) made.entry.config made.entry.history
     (record { homes = there.homes; apart = there.apart; housed = (here, there.housed); held = subst R (sym made.rows_are) (held_with rows w.fixed x row refl was.held) })
 
-pub made_along : {D : Type 0} (sense : Senses D) (old new : State D) (before after : Plain) (was is : Seen) (w : Working) (p : PageId) (now : ℕ) (g : Granted)
-    → Fixes sense old new before after was is w → length w.fixed < 64 → (by : IsCreatedBy old new before.rows after.rows (me w) p now was.end is.end g)
-    → Along sense 1 old new before after was is w (with_answer w (kind.Create p g.frame by.start (by.start + 21) now))
-made_along sense old new before after was is w p now g fixes few by =
-    along_of sense old new before after was is w (kind.Create p g.frame by.start (by.start + 21) now) fixes.left fixes.grown
-    (λ ready. (stays_made by.had new w p now by.start g by.made (stays_had sense old by.had before w g.frame ready by.frame_is), omega (arith, few))) fixes.behind fixes.tied fixes.later fixes.known
+pub made_along : {D : Type 0} (seen : D → DiskSeen) (old new : State D) (before after : Plain) (was is : Seen) (w : Working) (p : PageId) (now : ℕ) (g : Granted)
+    → Fixes seen old new before after was is w → length w.fixed < 64 → (by : IsCreatedBy old new before.rows after.rows (me w) p now was.end is.end g)
+    → Along seen 1 old new before after was is w (with_answer w (kind.Create p g.frame by.start (by.start + 21) now))
+made_along seen old new before after was is w p now g fixes few by =
+    along_of seen old new before after was is w (kind.Create p g.frame by.start (by.start + 21) now) fixes.left fixes.grown
+    (λ ready. (stays_made by.had new w p now by.start g by.made (stays_had seen old by.had before w g.frame ready by.frame_is), omega (arith, few))) fixes.behind fixes.tied fixes.later fixes.known
 
-pub unmade_along : {D : Type 0} (sense : Senses D) (old new : State D) (before after : Plain) (was is : Seen) (w : Working) (p : PageId) (now held : ℕ) (answer : Result Granted CreateErr)
-    → Fixes sense old new before after was is w → RefusesCreate answer
-    → IfErr answer (λ e. IsCreateRefusal sense.spaces sense.faults old new before.rows after.rows (me w) held p now was.durable was.end is.end was.faults is.faults e)
-    → Along sense 1 old new before after was is w (refused w)
-unmade_along sense old new before after was is w p now held (Ok g) fixes refuses why = absurd refuses
-unmade_along sense old new before after was is w p now held (Err refusal.OutOfMemory) fixes refuses why = absurd refuses
-unmade_along sense old new before after was is w p now held (Err (refusal.NoSuchPage pages)) fixes refuses why =
-    along_refused sense old new before after was is w (call.Create p now) (cause.NoSuchPage pages) why.0.entry why.1 fixes.left fixes.grown fixes.behind fixes.tied fixes.later fixes.known
-unmade_along sense old new before after was is w p now held (Err (refusal.HoldFull full)) fixes refuses why =
-    along_refused sense old new before after was is w (call.Create p now) (cause.HoldFull full) why.1.entry why.2 fixes.left fixes.grown fixes.behind fixes.tied fixes.later fixes.known
-unmade_along sense old new before after was is w p now held (Err (refusal.Resident f)) fixes refuses why =
-    along_refused sense old new before after was is w (call.Create p now) (cause.Resident f) why.2.entry why.3 fixes.left fixes.grown fixes.behind fixes.tied fixes.later fixes.known
-unmade_along sense old new before after was is w p now held (Err (refusal.AllFixed seen)) fixes refuses why =
-    along_refused sense old new before after was is w (call.Create p now) (cause.AllFixed seen) why.2.entry why.3 fixes.left fixes.grown fixes.behind fixes.tied fixes.later fixes.known
-unmade_along sense old new before after was is w p now held (Err (refusal.RedoFault from to)) fixes refuses why =
-    along_refused sense old new before after was is w (call.Create p now) (cause.RedoFault from to) why.2.entry why.3 fixes.left fixes.grown fixes.behind fixes.tied fixes.later fixes.known
-unmade_along sense old new before after was is w p now held (Err (refusal.DiskFault from to)) fixes refuses why =
-    along_refused sense old new before after was is w (call.Create p now) (cause.DiskFault from to) why.2.entry why.3 fixes.left fixes.grown fixes.behind fixes.tied fixes.later fixes.known
-unmade_along sense old new before after was is w p now held (Err (refusal.LogSpent end)) fixes refuses why =
-    along_unread sense old why.2.had new before after was is w (call.Create p now) (cause.LogSpent end) why.2.frame why.2.frame_is why.2.entry
+pub unmade_along : {D : Type 0} (seen : D → DiskSeen) (old new : State D) (before after : Plain) (was is : Seen) (w : Working) (p : PageId) (now held : ℕ) (answer : Result Granted CreateErr)
+    → Fixes seen old new before after was is w → RefusesCreate answer
+    → IfErr answer (λ e. IsCreateRefusal seen old new before.rows after.rows (me w) held p now was.durable was.end is.end was.faults is.faults e)
+    → Along seen 1 old new before after was is w (refused w)
+unmade_along seen old new before after was is w p now held (Ok g) fixes refuses why = absurd refuses
+unmade_along seen old new before after was is w p now held (Err refusal.OutOfMemory) fixes refuses why = absurd refuses
+unmade_along seen old new before after was is w p now held (Err (refusal.NoSuchPage pages)) fixes refuses why =
+    along_refused seen old new before after was is w (call.Create p now) (cause.NoSuchPage pages) why.0.entry why.1 fixes.left fixes.grown fixes.behind fixes.tied fixes.later fixes.known
+unmade_along seen old new before after was is w p now held (Err (refusal.HoldFull full)) fixes refuses why =
+    along_refused seen old new before after was is w (call.Create p now) (cause.HoldFull full) why.1.entry why.2 fixes.left fixes.grown fixes.behind fixes.tied fixes.later fixes.known
+unmade_along seen old new before after was is w p now held (Err (refusal.Resident f)) fixes refuses why =
+    along_refused seen old new before after was is w (call.Create p now) (cause.Resident f) why.2.entry why.3 fixes.left fixes.grown fixes.behind fixes.tied fixes.later fixes.known
+unmade_along seen old new before after was is w p now held (Err (refusal.AllFixed words)) fixes refuses why =
+    along_refused seen old new before after was is w (call.Create p now) (cause.AllFixed words) why.2.entry why.3 fixes.left fixes.grown fixes.behind fixes.tied fixes.later fixes.known
+unmade_along seen old new before after was is w p now held (Err (refusal.RedoFault from to)) fixes refuses why =
+    along_refused seen old new before after was is w (call.Create p now) (cause.RedoFault from to) why.2.entry why.3 fixes.left fixes.grown fixes.behind fixes.tied fixes.later fixes.known
+unmade_along seen old new before after was is w p now held (Err (refusal.DiskFault from to)) fixes refuses why =
+    along_refused seen old new before after was is w (call.Create p now) (cause.DiskFault from to) why.2.entry why.3 fixes.left fixes.grown fixes.behind fixes.tied fixes.later fixes.known
+unmade_along seen old new before after was is w p now held (Err (refusal.LogSpent end)) fixes refuses why =
+    along_unread seen old why.2.had new before after was is w (call.Create p now) (cause.LogSpent end) why.2.frame why.2.frame_is why.2.entry
     fixes.left fixes.grown fixes.behind fixes.tied fixes.later fixes.known
 
 -- the laws of the command, over any trail so far
-abbrev pub Made : {D : Type 0} → Senses D → State D → State D → Seen → Seen → Working → Working → PageId → ℕ → Type 0
-Made sense old new was is w v p now = (o : Opening) (start : Start) (past : List Event) → SoFar sense o start old was w past [] → Does sense o start new is v past (command.Create p now)
+abbrev pub Made : {D : Type 0} → (D → DiskSeen) → State D → State D → Seen → Seen → Working → Working → PageId → ℕ → Type 0
+Made seen old new was is w v p now = (o : Opening) (start : Start) (past : List Event) → SoFar seen o start old was w past [] → Does seen o start new is v past (command.Create p now)
 
-pub made_does : {D : Type 0} (sense : Senses D) (old new : State D) (before after : Plain) (was is : Seen) (w : Working) (p : PageId) (now : ℕ) (g : Granted)
-    → Fixes sense old new before after was is w → length w.fixed < 64 → p.page < pages_in (sense.spaces old.disk) p.space → log_end old.history ≤ was.end
-    → (by : IsCreatedBy old new before.rows after.rows (me w) p now was.end is.end g) → Made sense old new was is w (with_answer w (kind.Create p g.frame by.start (by.start + 21) now)) p now
-made_does sense old new before after was is w p now g fixes few inside known by =
-    λ o start past so. does_made sense o start old new before was is w past p now g so (moves_of sense o start old new before after was is w past fixes so) fixes.ready by inside few known
+pub made_does : {D : Type 0} (seen : D → DiskSeen) (old new : State D) (before after : Plain) (was is : Seen) (w : Working) (p : PageId) (now : ℕ) (g : Granted)
+    → Fixes seen old new before after was is w → length w.fixed < 64 → p.page < pages_in (seen old.disk).spaces p.space → log_end old.history ≤ was.end
+    → (by : IsCreatedBy old new before.rows after.rows (me w) p now was.end is.end g) → Made seen old new was is w (with_answer w (kind.Create p g.frame by.start (by.start + 21) now)) p now
+made_does seen old new before after was is w p now g fixes few inside known by =
+    λ o start past so. does_made seen o start old new before was is w past p now g so (moves_of seen o start old new before after was is w past fixes so) fixes.ready by inside few known (room_of seen o start old was w past [] CREATE_NEED so (omega (arith, fixes.room)))
 
-pub unmade_does : {D : Type 0} (sense : Senses D) (old new : State D) (before after : Plain) (was is : Seen) (w : Working) (p : PageId) (now held : ℕ) (answer : Result Granted CreateErr)
-    → Fixes sense old new before after was is w → held ≡ length w.fixed → RefusesCreate answer → log_end old.history ≤ was.end
-    → IfErr answer (λ e. IsCreateRefusal sense.spaces sense.faults old new before.rows after.rows (me w) held p now was.durable was.end is.end was.faults is.faults e)
-    → Made sense old new was is w (refused w) p now
-unmade_does sense old new before after was is w p now held (Ok g) fixes count refuses known why = absurd refuses
-unmade_does sense old new before after was is w p now held (Err refusal.OutOfMemory) fixes count refuses known why = absurd refuses
-unmade_does sense old new before after was is w p now held (Err (refusal.NoSuchPage pages)) fixes count refuses known why =
-    λ o start past so. create_outside sense o start old new was is w past p now pages so (moves_of sense o start old new before after was is w past fixes so) why.0
-unmade_does sense old new before after was is w p now held (Err (refusal.HoldFull full)) fixes count refuses known why =
-    λ o start past so. create_full sense o start old new was is w past p now held full so (moves_of sense o start old new before after was is w past fixes so) why.0 count fixes.ready.few why.1
-unmade_does sense old new before after was is w p now held (Err (refusal.Resident f)) fixes count refuses known why =
-    λ o start past so. create_resident sense o start old new was is w past p now f so (moves_of sense o start old new before after was is w past fixes so) why.0
-    (fewer held (length w.fixed) count why.1) why.2
-unmade_does sense old new before after was is w p now held (Err (refusal.AllFixed seen)) fixes count refuses known why =
-    λ o start past so. create_unseated sense o start old new before was is w past p now seen so (moves_of sense o start old new before after was is w past fixes so) fixes.ready why.0
-    (fewer held (length w.fixed) count why.1) why.2
-unmade_does sense old new before after was is w p now held (Err (refusal.RedoFault from to)) fixes count refuses known why =
-    λ o start past so. create_uncovered sense o start old new was is w past p now from to so (moves_of sense o start old new before after was is w past fixes so) why.0
-    (fewer held (length w.fixed) count why.1) why.2
-unmade_does sense old new before after was is w p now held (Err (refusal.DiskFault from to)) fixes count refuses known why =
-    λ o start past so. create_unwritten sense o start old new was is w past p now from to so (moves_of sense o start old new before after was is w past fixes so) why.0
-    (fewer held (length w.fixed) count why.1) why.2
-unmade_does sense old new before after was is w p now held (Err (refusal.LogSpent end)) fixes count refuses known why =
-    λ o start past so. create_spent sense o start old new before was is w past p now end so (moves_of sense o start old new before after was is w past fixes so) fixes.ready why.0
-    (fewer held (length w.fixed) count why.1) why.2 known
+pub unmade_does : {D : Type 0} (seen : D → DiskSeen) (old new : State D) (before after : Plain) (was is : Seen) (w : Working) (p : PageId) (now held : ℕ) (answer : Result Granted CreateErr)
+    → Fixes seen old new before after was is w → held ≡ length w.fixed → RefusesCreate answer → log_end old.history ≤ was.end
+    → IfErr answer (λ e. IsCreateRefusal seen old new before.rows after.rows (me w) held p now was.durable was.end is.end was.faults is.faults e)
+    → Made seen old new was is w (refused w) p now
+unmade_does seen old new before after was is w p now held (Ok g) fixes count refuses known why = absurd refuses
+unmade_does seen old new before after was is w p now held (Err refusal.OutOfMemory) fixes count refuses known why = absurd refuses
+unmade_does seen old new before after was is w p now held (Err (refusal.NoSuchPage pages)) fixes count refuses known why =
+    λ o start past so. create_outside seen o start old new was is w past p now pages so (moves_of seen o start old new before after was is w past fixes so) why.0 (room_of seen o start old was w past [] CREATE_NEED so (omega (arith, fixes.room)))
+unmade_does seen old new before after was is w p now held (Err (refusal.HoldFull full)) fixes count refuses known why =
+    λ o start past so. create_full seen o start old new was is w past p now held full so (moves_of seen o start old new before after was is w past fixes so) why.0 count fixes.ready.few why.1 (room_of seen o start old was w past [] CREATE_NEED so (omega (arith, fixes.room)))
+unmade_does seen old new before after was is w p now held (Err (refusal.Resident f)) fixes count refuses known why =
+    λ o start past so. create_resident seen o start old new was is w past p now f so (moves_of seen o start old new before after was is w past fixes so) why.0
+    (fewer held (length w.fixed) count why.1) why.2 (room_of seen o start old was w past [] CREATE_NEED so (omega (arith, fixes.room)))
+unmade_does seen old new before after was is w p now held (Err (refusal.AllFixed words)) fixes count refuses known why =
+    λ o start past so. create_unseated seen o start old new before was is w past p now words so (moves_of seen o start old new before after was is w past fixes so) fixes.ready why.0
+    (fewer held (length w.fixed) count why.1) why.2 (room_of seen o start old was w past [] CREATE_NEED so (omega (arith, fixes.room)))
+unmade_does seen old new before after was is w p now held (Err (refusal.RedoFault from to)) fixes count refuses known why =
+    λ o start past so. create_uncovered seen o start old new was is w past p now from to so (moves_of seen o start old new before after was is w past fixes so) why.0
+    (fewer held (length w.fixed) count why.1) why.2 (room_of seen o start old was w past [] CREATE_NEED so (omega (arith, fixes.room)))
+unmade_does seen old new before after was is w p now held (Err (refusal.DiskFault from to)) fixes count refuses known why =
+    λ o start past so. create_unwritten seen o start old new was is w past p now from to so (moves_of seen o start old new before after was is w past fixes so) why.0
+    (fewer held (length w.fixed) count why.1) why.2 (room_of seen o start old was w past [] CREATE_NEED so (omega (arith, fixes.room)))
+unmade_does seen old new before after was is w p now held (Err (refusal.LogSpent end)) fixes count refuses known why =
+    λ o start past so. create_spent seen o start old new before was is w past p now end so (moves_of seen o start old new before after was is w past fixes so) fixes.ready why.0
+    (fewer held (length w.fixed) count why.1) why.2 known (room_of seen o start old was w past [] CREATE_NEED so (omega (arith, fixes.room)))

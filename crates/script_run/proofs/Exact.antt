@@ -1,6 +1,8 @@
 -- The words that a worker finds are exactly what its trail says.
 use Rattle.std.proofs.Common.{◌≡◌, ℕ, Bool, true, false, cond, List, [], ◌∷◌, ◌+◌, ◌<◌, ◌≤◌, Option, Some, None, IfSome, length, refl, ap, ◌∙◌, sym, subst, nat_eq, nat_le, eq-eqb, arith}
 use Rattle.std.proofs.lemmas.Bool.Decides.{nat_tests}
+use Rattle.std.specs.Prelude.{is_some}
+use Rattle.std.specs.Option.{option_map_or}
 use Rattle.std.proofs.lemmas.List.{get_or_past}
 use Rattle.std.proofs.lemmas.List.Sums.{sum_by-cons}
 use Rattle.page_ids.specs.FrameWord.{fixes_of, is_latched}
@@ -8,18 +10,20 @@ use Rattle.page_ids.specs.Same.{same_page}
 use Rattle.page_ids.specs.Size.{page_bytes}
 use Rattle.page_ids.specs.declared.frame_word.Word.{Word}
 use Rattle.page_ids.specs.declared.ids.PageId.{PageId}
+use Rattle.page_disk.specs.Disks.{DiskSeen}
 use Rattle.trail.specs.declared.event.Entry.{Entry}
 use Rattle.trail.specs.declared.event.Held.{Held}
-use Rattle.trail.specs.Alone.{IsExact, AreExactWords, fixes_on}
-use Rattle.trail.specs.Calls.{newest_of}
-use Rattle.trail.specs.History.{home, change}
+use Rattle.trail.specs.Words.{IsTrueWord, AreTrueWords, fixes_on}
+use Rattle.trail.specs.Calls.{newest_fix}
+use Rattle.trail.specs.History.{home, change, tenant}
+use Rattle.trail.proofs.LookUps.{tenant_is}
 use Rattle.frame_words.specs.Plain.{Plain}
 use Rattle.frame_words.specs.Rows.{Row, IsFound, new_row}
 use Rattle.desk.specs.State.{State}
 use Rattle.desk.specs.Steps.{row_in}
 use Rattle.desk.specs.Tied.{IsTied}
 use Rattle.desk.specs.Victims.{AreFoundOn}
-use Rattle.script_run.specs.Work.{Senses, IsReady, AreApart, AreHoused, fixes_in}
+use Rattle.script_run.specs.Work.{IsReady, AreApart, AreHoused, fixes_in}
 use Rattle.script_run.proofs.Fixes.{one_page, same_self, number_is}
 
 one_frame : (h : List Entry) (p : PageId) (f g : ℕ) → home h p ≡ Some f → home h p ≡ Some g → f ≡ g
@@ -56,7 +60,7 @@ same_fixes h (x ∷ fixed) p f apart housed here =
     more false m n same = omega (arith, same)
 
 -- a page whose frame has no fix is not held
-pub none_newest : (h : List Entry) (fixed : List Held) (p : PageId) (f : ℕ) → AreHoused h fixed → home h p ≡ Some f → fixes_in f fixed ≡ 0 → newest_of fixed p ≡ None
+pub none_newest : (h : List Entry) (fixed : List Held) (p : PageId) (f : ℕ) → AreHoused h fixed → home h p ≡ Some f → fixes_in f fixed ≡ 0 → newest_fix fixed p ≡ None
 none_newest h [] p f housed here none = refl
 none_newest h (x ∷ fixed) p f housed here none = cases (none_newest h fixed p f housed.1 here other.1) (same_page x.page p) refl
   where
@@ -67,7 +71,7 @@ none_newest h (x ∷ fixed) p f housed here none = cases (none_newest h fixed p 
     other : (nat_eq x.frame f ≡ false) × (fixes_in f fixed ≡ 0)
     other = free (nat_eq x.frame f) (fixes_in f fixed) none
 
-    cases : newest_of fixed p ≡ None → (b : Bool) → same_page x.page p ≡ b → cond b (Some x) (newest_of fixed p) ≡ None
+    cases : newest_fix fixed p ≡ None → (b : Bool) → same_page x.page p ≡ b → cond b (Some x) (newest_fix fixed p) ≡ None
     cases rest true s =
         let at : x.frame ≡ f = one_frame h p x.frame f (ap (home h) (sym (one_page x.page p s)) ∙ housed.0) here in
         let bad : true ≡ false = sym (eq-eqb x.frame f at) ∙ other.0 in absurd (cc)
@@ -77,30 +81,30 @@ told_fixes : (held : Option ℕ) (n : ℕ) (w : Word) (latched : Bool) → held 
 told_fixes None n w latched is told = absurd (cc)
 told_fixes (Some k) n w latched is told = let same : k ≡ n = cc in (omega (arith, told.0, same), told.1)
 
-unheld_test : (h : List Entry) (f : ℕ) (x : Held) (n : ℕ) (b : Bool) → nat_eq x.frame f ≡ b → home h x.page ≡ Some x.frame → ((p : PageId) → home h p ≡ Some f → ⊥) → n ≡ 0 → cond b (n + 1) n ≡ 0
-unheld_test h f x n true t here none zero_is = absurd (none x.page (here ∙ ap Some (number_is x.frame f t)))
-unheld_test h f x n false t here none zero_is = zero_is
-
--- a frame in which no page is at home has no fix
-unheld : (h : List Entry) (f : ℕ) (fixed : List Held) → AreHoused h fixed → ((p : PageId) → home h p ≡ Some f → ⊥) → fixes_in f fixed ≡ 0
-unheld h f [] housed none = refl
-unheld h f (x ∷ fixed) housed none = unheld_test h f x (fixes_in f fixed) (nat_eq x.frame f) refl housed.0 none (unheld h f fixed housed.1 none)
-
 resident_at : (h : List Entry) (f : ℕ) (b : Bool) (p : PageId) → (b ≡ false → (q : PageId) → home h q ≡ Some f → ⊥) → home h p ≡ Some f → b ≡ true
 resident_at h f true p vacant here = refl
 resident_at h f false p vacant here = absurd (vacant refl p here)
 
+-- a fix of a frame is of a page that is at home there
+held_there : (h : List Entry) (f : ℕ) (fixed : List Held) → AreHoused h fixed → 0 < fixes_in f fixed → (p : PageId) × (home h p ≡ Some f)
+held_there h f [] housed some = absurd (omega (arith, some))
+held_there h f (x ∷ fixed) housed some = cases (held_there h f fixed housed.1) (nat_eq x.frame f) refl some
+  where
+    cases : (0 < fixes_in f fixed → (p : PageId) × (home h p ≡ Some f)) → (b : Bool) → nat_eq x.frame f ≡ b → 0 < cond b (fixes_in f fixed + 1) (fixes_in f fixed) → (p : PageId) × (home h p ≡ Some f)
+    cases rest true t more = (x.page, housed.0 ∙ ap Some (number_is x.frame f t))
+    cases rest false t more = rest more
+
 -- a word that was found on a frame, at a history that leaves homes and changes
 exact_inside : (size frames : ℕ) (h mid : List Entry) (r : Row) (f : ℕ) (fixed : List Held) (w : Word)
     → ((p : PageId) → home mid p ≡ home h p) → ((g : ℕ) → change mid g ≡ change h g)
-    → IsTied size frames h r f → r.held ≡ Some (fixes_in f fixed) → AreApart h → AreHoused h fixed → 0 < fixes_of w → IsFound r 0 w → IsExact mid fixed f w
+    → IsTied size frames h r f → r.held ≡ Some (fixes_in f fixed) → AreApart h → AreHoused h fixed → 0 < fixes_of w → IsFound r 0 w → IsTrueWord mid fixed f w
 exact_inside size frames h mid r f fixed w homes changes tied held apart housed some found =
     let told = told_fixes r.held (fixes_in f fixed) w r.latched held found.exact in
+    let page = held_there h f fixed housed (omega (arith, some, told.0)) in
+    let one : tenant mid f ≡ Some page.0 = tenant_is mid f page.0 (homes page.0 ∙ page.1) (λ q there. apart q page.0 f (sym (homes q) ∙ there) page.1) in
     record {
-      housed = λ p here.
-          let was : home h p ≡ Some f = sym (homes p) ∙ here in
-          (found.resident ∙ resident_at h f r.resident p tied.vacant was, told.0 ∙ same_fixes h fixed p f apart housed was);
-      vacant = λ none. absurd (omega (arith, some, told.0, unheld h f fixed housed (λ p here. none p (homes p ∙ here))));
+      resident = found.resident ∙ resident_at h f r.resident page.0 tied.vacant page.1 ∙ ap is_some (sym one);
+      fixes = told.0 ∙ same_fixes h fixed page.0 f apart housed page.1 ∙ ap (λ (o : Option PageId). option_map_or (λ p. fixes_on fixed p) o 0) (sym one);
       clock = found.clock ∙ tied.clock ∙ sym (changes f);
       unlatched = told.1 ∙ tied.unlatched;
     }
@@ -125,13 +129,13 @@ is_there rows f w some found = cases (nat_le (length rows) f) refl
     cases true e = absurd (past (le_of (length rows) f e))
     cases false e = lt_of (length rows) f e
 
-pub exact_words : {D : Type 0} (sense : Senses D) (desk : State D) (frames : Plain) (fixed : List Held) (mid : List Entry) (words : List (ℕ × Word))
+pub exact_words : {D : Type 0} (seen : D → DiskSeen) (desk : State D) (frames : Plain) (fixed : List Held) (mid : List Entry) (words : List (ℕ × Word))
     → ((p : PageId) → home mid p ≡ home desk.history p) → ((g : ℕ) → change mid g ≡ change desk.history g)
-    → IsReady sense desk frames fixed → AreFoundOn frames.rows words → AreExactWords mid fixed words
-exact_words sense desk frames fixed mid [] homes changes ready found = tt
-exact_words sense desk frames fixed mid (x ∷ words) homes changes ready found =
+    → IsReady seen desk frames fixed → AreFoundOn frames.rows words → AreTrueWords mid fixed words
+exact_words seen desk frames fixed mid [] homes changes ready found = tt
+exact_words seen desk frames fixed mid (x ∷ words) homes changes ready found =
     let inside = is_there frames.rows x.0 x.1 found.1 found.0 in (
       exact_inside (page_bytes desk.config.page) desk.config.frames desk.history mid (row_in frames.rows x.0) x.0 fixed x.1 homes changes
           (ready.tied.rows x.0 inside) (ready.held x.0 inside) ready.apart ready.housed found.1 found.0,
-      exact_words sense desk frames fixed mid words homes changes ready found.2,
+      exact_words seen desk frames fixed mid words homes changes ready found.2,
     )

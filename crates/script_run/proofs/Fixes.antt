@@ -8,7 +8,7 @@ use Rattle.page_ids.specs.declared.ids.PageId.{PageId}
 use Rattle.trail.specs.declared.event.Held.{Held}
 use Rattle.trail.specs.declared.event.Note.{Note}
 use Rattle.trail.specs.declared.event.Note.TheVariants as note
-use Rattle.trail.specs.Calls.{held_after_note, given_back, newest_of}
+use Rattle.trail.specs.Calls.{held_after_note, given_back, newest_fix}
 use Rattle.script_run.specs.Work.{AreFalling}
 
 pub reverse-push : {A : Type 0} → (xs : List A) (x : A) → reverse (xs ++ x ∷ []) ≡ x ∷ reverse xs
@@ -50,10 +50,10 @@ falling_note n (note.Unfixed p f fix) held falls = falling_up n (n + 1) (given_b
 falling_note n (note.Refused c why) held falls = falling_up n (n + 1) held (omega arith) falls
 
 -- looking for the newest fix of a page from the end
-pub newest_step : (items : List Held) (i : ℕ) (h : Held) (p : PageId) → i < length items → h ≡ get_or items i h → newest_of (reverse (take (i + 1) items)) p ≡ cond (same_page h.page p) (Some h) (newest_of (reverse (take i items)) p)
+pub newest_step : (items : List Held) (i : ℕ) (h : Held) (p : PageId) → i < length items → h ≡ get_or items i h → newest_fix (reverse (take (i + 1) items)) p ≡ cond (same_page h.page p) (Some h) (newest_fix (reverse (take i items)) p)
 newest_step items i h p inside here =
-    ap (λ xs. newest_of (reverse xs) p) (take_more items i h inside) ∙ ap (λ xs. newest_of xs p) (reverse-push (take i items) (get_or items i h))
-    ∙ ap (λ (x : Held). cond (same_page x.page p) (Some x) (newest_of (reverse (take i items)) p)) (sym here)
+    ap (λ xs. newest_fix (reverse xs) p) (take_more items i h inside) ∙ ap (λ xs. newest_fix xs p) (reverse-push (take i items) (get_or items i h))
+    ∙ ap (λ (x : Held). cond (same_page x.page p) (Some x) (newest_fix (reverse (take i items)) p)) (sym here)
 
 -- the fix that was given back is the one at its place
 given_front : (xs : List Held) (h : Held) (ys : List Held) (n : ℕ) → AreFalling n (xs ++ h ∷ ys) → given_back h.number (xs ++ h ∷ ys) ≡ xs ++ ys
@@ -82,12 +82,12 @@ given_remove items i h n here falls =
     let F : List Held → Type 0 = λ held. AreFalling n held in
     ap (given_back h.number) parts ∙ given_front (reverse (drop (suc i) items)) h (reverse (take i items)) n (subst F parts falls) ∙ sym (reverse-append (take i items) (drop (suc i) items))
 
-newest_test : (b : Bool) (x : Held) (held : List Held) (p : PageId) (h : Held) → same_page x.page p ≡ b → cond b (Some x) (newest_of held p) ≡ Some h
-    → (newest_of held p ≡ Some h → Contains held h × (h.page ≡ p)) → Contains (x ∷ held) h × (h.page ≡ p)
+newest_test : (b : Bool) (x : Held) (held : List Held) (p : PageId) (h : Held) → same_page x.page p ≡ b → cond b (Some x) (newest_fix held p) ≡ Some h
+    → (newest_fix held p ≡ Some h → Contains held h × (h.page ≡ p)) → Contains (x ∷ held) h × (h.page ≡ p)
 newest_test true x held p h test e more = let same : x ≡ h = cc in ((0, omega arith, same), ap (λ (y : Held). y.page) (sym same) ∙ one_page x.page p test)
 newest_test false x held p h test e more = let found = more e in ((suc found.0.0, omega (arith, found.0.1), found.0.2), found.1)
 
 -- the newest fix of a page is held, and is of that page
-pub newest_held : (held : List Held) (p : PageId) (h : Held) → newest_of held p ≡ Some h → Contains held h × (h.page ≡ p)
+pub newest_held : (held : List Held) (p : PageId) (h : Held) → newest_fix held p ≡ Some h → Contains held h × (h.page ≡ p)
 newest_held [] p h e = absurd (cc)
 newest_held (x ∷ held) p h e = newest_test (same_page x.page p) x held p h refl e (newest_held held p h)

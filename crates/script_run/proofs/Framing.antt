@@ -6,6 +6,7 @@ use Rattle.std.proofs.lemmas.List.{get_or-set_same, get_or-set_other}
 use Rattle.page_ids.specs.Content.{Content}
 use Rattle.page_ids.specs.Size.{page_bytes}
 use Rattle.page_ids.specs.declared.ids.PageId.{PageId}
+use Rattle.page_disk.specs.Disks.{DiskSeen}
 use Rattle.trail.specs.History.{home, value}
 use Rattle.trail.specs.declared.event.Entry.{Entry}
 use Rattle.trail.specs.declared.event.Held.{Held}
@@ -17,7 +18,7 @@ use Rattle.desk.specs.Behind.{IsValueIn}
 use Rattle.desk.specs.State.{State}
 use Rattle.desk.specs.Steps.{row_in}
 use Rattle.desk.specs.Tied.{AreTied, IsTied, OnTold, AreAlone}
-use Rattle.script_run.specs.Work.{Senses, IsReady, IsAtRest, HasRange, AreHeld, AreHoused, IsBehindIt, fixes_in, given_at}
+use Rattle.script_run.specs.Work.{IsReady, IsAtRest, HasRange, AreHeld, AreHoused, IsBehindIt, fixes_in, given_at}
 use mathlib.Core.Logic.{dite}
 use native.Mathlib.Decide.{ℕ_discrete}
 
@@ -120,8 +121,8 @@ no_fixes : (o : Option ℕ) → option_map (λ n. n - 1) o ≡ None → o ≡ No
 no_fixes None is = refl
 no_fixes (Some n) is = absurd (cc)
 
-tied_given : {D : Type 0} (sense : Senses D) (desk : State D) (frames : Plain) (f : ℕ) → AreTied sense.tells sense.told sense.spaces (seen_of frames) desk → AreTied sense.tells sense.told sense.spaces (seen_of (given_at frames f)) desk
-tied_given sense desk frames f tied =
+tied_given : {D : Type 0} (seen : D → DiskSeen) (desk : State D) (frames : Plain) (f : ℕ) → AreTied seen (seen_of frames) desk → AreTied seen (seen_of (given_at frames f)) desk
+tied_given seen desk frames f tied =
     let row = unheld_row (row_in frames.rows f) in
     let long : length (given_at frames f).rows ≡ length frames.rows = length-set frames.rows f row in
     record {
@@ -153,8 +154,8 @@ value_in o s t (Some None) v same is = (sym same ∙ is.0, is.1)
 value_in o s t (Some (Some c)) v same is = is
 
 -- a fix that is given back leaves the images
-pub behind_given : {D : Type 0} (sense : Senses D) (o : Opened) (desk : State D) (frames : Plain) (f : ℕ) → IsBehindIt sense o desk frames → IsBehindIt sense o desk (given_at frames f)
-behind_given sense o desk frames f is = record {
+pub behind_given : {D : Type 0} (seen : D → DiskSeen) (o : Opened) (desk : State D) (frames : Plain) (f : ℕ) → IsBehindIt seen o desk frames → IsBehindIt seen o desk (given_at frames f)
+behind_given seen o desk frames f is = record {
   size = is.size;
   pages = is.pages;
   based = is.based;
@@ -176,9 +177,9 @@ pub fewer_mid : (xs : List Held) (x : Held) (ys : List Held) → length (xs ++ y
 fewer_mid [] x ys = omega arith
 fewer_mid (y ∷ xs) x ys = omega (arith, fewer_mid xs x ys)
 
-pub ready_given : {D : Type 0} (sense : Senses D) (desk : State D) (frames : Plain) (xs : List Held) (x : Held) (ys : List Held) → IsReady sense desk frames (xs ++ x ∷ ys) → IsReady sense desk (given_at frames x.frame) (xs ++ ys)
-ready_given sense desk frames xs x ys ready = record {
-  tied = tied_given sense desk frames x.frame ready.tied;
+pub ready_given : {D : Type 0} (seen : D → DiskSeen) (desk : State D) (frames : Plain) (xs : List Held) (x : Held) (ys : List Held) → IsReady seen desk frames (xs ++ x ∷ ys) → IsReady seen desk (given_at frames x.frame) (xs ++ ys)
+ready_given seen desk frames xs x ys ready = record {
+  tied = tied_given seen desk frames x.frame ready.tied;
   homes = ready.homes;
   apart = ready.apart;
   housed = housed_mid desk.history xs x ys ready.housed;
@@ -187,8 +188,8 @@ ready_given sense desk frames xs x ys ready = record {
 }
 
 -- the frame of a page is at rest between the calls
-pub at_rest : {D : Type 0} (sense : Senses D) (desk : State D) (frames : Plain) (fixed : List Held) (f : ℕ) → IsReady sense desk frames fixed → f < desk.config.frames → IsAtRest frames f
-at_rest sense desk frames fixed f ready below =
+pub at_rest : {D : Type 0} (seen : D → DiskSeen) (desk : State D) (frames : Plain) (fixed : List Held) (f : ℕ) → IsReady seen desk frames fixed → f < desk.config.frames → IsAtRest frames f
+at_rest seen desk frames fixed f ready below =
     let inside : f < length frames.rows = omega (arith, ready.tied.whole, below) in
     record { inside = inside; unvisited = ready.tied.unvisited; unlatched = (ready.tied.rows f inside).unlatched }
 
@@ -196,23 +197,23 @@ mid_home : (h : List Entry) (xs : List Held) (x : Held) (ys : List Held) → Are
 mid_home h [] x ys was = (x.page, was.0)
 mid_home h (y ∷ xs) x ys was = mid_home h xs x ys was.1
 
-pub rest_mid : {D : Type 0} (sense : Senses D) (desk : State D) (frames : Plain) (xs : List Held) (x : Held) (ys : List Held) → IsReady sense desk frames (xs ++ x ∷ ys) → IsAtRest frames x.frame
-rest_mid sense desk frames xs x ys ready =
+pub rest_mid : {D : Type 0} (seen : D → DiskSeen) (desk : State D) (frames : Plain) (xs : List Held) (x : Held) (ys : List Held) → IsReady seen desk frames (xs ++ x ∷ ys) → IsAtRest frames x.frame
+rest_mid seen desk frames xs x ys ready =
     let at = mid_home desk.history xs x ys ready.housed in
-    at_rest sense desk frames (xs ++ x ∷ ys) x.frame ready (ready.homes at.0 x.frame at.1)
+    at_rest seen desk frames (xs ++ x ∷ ys) x.frame ready (ready.homes at.0 x.frame at.1)
 
 -- a frame of which there is a fix has one
-pub some_held : {D : Type 0} (sense : Senses D) (desk : State D) (frames : Plain) (xs : List Held) (x : Held) (ys : List Held) → IsReady sense desk frames (xs ++ x ∷ ys) → 0 < held_of (row_in frames.rows x.frame)
-some_held sense desk frames xs x ys ready =
-    let rest = rest_mid sense desk frames xs x ys ready in
+pub some_held : {D : Type 0} (seen : D → DiskSeen) (desk : State D) (frames : Plain) (xs : List Held) (x : Held) (ys : List Held) → IsReady seen desk frames (xs ++ x ∷ ys) → 0 < held_of (row_in frames.rows x.frame)
+some_held seen desk frames xs x ys ready =
+    let rest = rest_mid seen desk frames xs x ys ready in
     let is : (row_in frames.rows x.frame).held ≡ Some (fixes_in x.frame (xs ++ ys) + 1) =
     ready.held x.frame rest.inside ∙ ap Some (fixes_mid x.frame xs x ys ∙ same_frame x x.frame (xs ++ ys) refl) in
     let n : held_of (row_in frames.rows x.frame) ≡ fixes_in x.frame (xs ++ ys) + 1 = ap (λ (h : Option ℕ). option_map_or (λ held. held) h 0) is in
     omega (arith, n)
 
 -- few fixes leave room in each frame's word
-pub room_left : {D : Type 0} (sense : Senses D) (desk : State D) (frames : Plain) (fixed : List Held) (f : ℕ) → IsReady sense desk frames fixed → f < length frames.rows → 0 < room_of frames f
-room_left sense desk frames fixed f ready inside =
+pub room_left : {D : Type 0} (seen : D → DiskSeen) (desk : State D) (frames : Plain) (fixed : List Held) (f : ℕ) → IsReady seen desk frames fixed → f < length frames.rows → 0 < room_of frames f
+room_left seen desk frames fixed f ready inside =
     let n : held_of (row_in frames.rows f) ≡ fixes_in f fixed = ap (λ (h : Option ℕ). option_map_or (λ held. held) h 0) (ready.held f inside) in
     omega (arith, n, fixes_few f fixed, ready.few)
 
@@ -225,8 +226,8 @@ image_told (Some None) told = absurd (told refl)
 image_told (Some (Some c)) told = refl
 
 -- each fix is the worker's, and what each image holds is told
-pub all_told : {D : Type 0} (sense : Senses D) (desk : State D) (frames : Plain) (fixed : List Held) → IsReady sense desk frames fixed → AreAlone (seen_of frames)
-all_told sense desk frames fixed ready = λ f inside.
+pub all_told : {D : Type 0} (seen : D → DiskSeen) (desk : State D) (frames : Plain) (fixed : List Held) → IsReady seen desk frames fixed → AreAlone (seen_of frames)
+all_told seen desk frames fixed ready = λ f inside.
     let S : Option ℕ → Type 0 = λ held. IsSome held in
     (subst S (sym (ready.held f inside)) refl, image_told (row_in frames.rows f).image (λ none. none_told (ready.tied.known f inside none).0))
 
@@ -236,9 +237,9 @@ has_range (Some None) size at len there told sized some header trailer = absurd 
 has_range (Some (Some c)) size at len there told sized some header trailer = record { some = some; header = header; trailer = subst (λ (n : ℕ). at + len ≤ n - 8) (sym sized) trailer }
 
 -- the image of a page's frame is told, and has the range
-pub range_of : {D : Type 0} (sense : Senses D) (desk : State D) (frames : Plain) (fixed : List Held) (f at len : ℕ) → IsReady sense desk frames fixed → f < desk.config.frames
+pub range_of : {D : Type 0} (seen : D → DiskSeen) (desk : State D) (frames : Plain) (fixed : List Held) (f at len : ℕ) → IsReady seen desk frames fixed → f < desk.config.frames
     → 0 < len → 38 ≤ at → at + len ≤ page_bytes desk.config.page - 8 → HasRange (row_in frames.rows f).image at len
-range_of sense desk frames fixed f at len ready below some header trailer =
+range_of seen desk frames fixed f at len ready below some header trailer =
     let inside : f < length frames.rows = omega (arith, ready.tied.whole, below) in
     let row = ready.tied.rows f inside in
     has_range (row_in frames.rows f).image (page_bytes desk.config.page) at len (row.there below) (λ none. none_told (ready.tied.known f inside none).0) row.sized some header trailer

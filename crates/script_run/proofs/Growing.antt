@@ -1,7 +1,8 @@
 -- How the trail so far grows by an event.
-use Rattle.std.proofs.Common.{◌≡◌, ℕ, Bool, cond, List, [], ◌∷◌, ◌+◌, ◌≤◌, Option, Some, None, true, false, refl, ap, ◌∙◌, sym, subst, eq-eqb, nat_eq, IfSome, arith, inr}
+use Rattle.std.proofs.Common.{◌≡◌, ◌<◌, ℕ, Bool, List, [], ◌∷◌, ◌++◌, ◌+◌, ◌≤◌, Option, Some, None, true, false, refl, ap, ◌∙◌, sym, subst, eq-eqb, nat_eq, IfSome, length, arith, inr}
 use Rattle.std.specs.Prelude.{unwrap_or}
 use Rattle.page_ids.specs.declared.config.Config.{Config}
+use Rattle.page_disk.specs.Disks.{DiskSeen}
 use Rattle.redo_mark.specs.Logs.{Seen}
 use Rattle.trail.specs.declared.event.Entry.{Entry}
 use Rattle.trail.specs.declared.event.Held.{Held}
@@ -9,16 +10,21 @@ use Rattle.trail.specs.declared.event.Event.{Event}
 use Rattle.trail.specs.declared.event.Event.TheVariants as event
 use Rattle.trail.specs.declared.event.Note.{Note}
 use Rattle.trail.specs.declared.event.Kind.{Kind}
-use Rattle.trail.specs.Alone.{AreExactWords, words_told}
-use Rattle.trail.specs.Places.{mark, entries}
-use Rattle.trail.specs.History.{after_cause, disk_faults, disk_faults_after, log_faults, log_faults_after}
-use Rattle.trail.specs.Calls.{next_number, under_way, kind_answers, held_by, held_after_kind, held_after_note}
-use Rattle.trail.specs.Opening.{Opening}
-use Rattle.trail.specs.Legal.{IsLegalKind, IsLegalNote, MayPrecede, IsTogether, IsInOrder}
-use Rattle.trail.specs.Covered.{IsCoveredKind}
+use Rattle.page_ids.specs.declared.limits.TheConstants.{LIMIT}
+use Rattle.trail.specs.Trails.{AreNumbered, mark, entries, own, Opening}
+use Rattle.trail.specs.History.{disk_faults, disk_faults_after, log_faults, log_faults_after}
+use Rattle.trail.specs.Calls.{calls_of, made, held_by, held_after_kind, held_after_note, open_fixes}
+use Rattle.trail.specs.Kinds.{departure_in, kind_answers, write_in}
+use Rattle.trail.specs.Book.{book}
+use Rattle.trail.specs.Legal.{IsLegalKind, IsLegalNote, IsInOrder, IsTogether}
+use Rattle.trail.specs.Preceding.{MayPrecede}
+use Rattle.trail.specs.Still.{IsUnfixed}
+use Rattle.trail.specs.Covered.{IsCoveredWrite}
+use Rattle.trail.specs.Withdrawal.{IsWithdrawalKind}
+use Rattle.trail.specs.Alone.{IsTrueBy, IsTrueKind, IsTrueNote}
 use Rattle.trail.specs.Causes.{IsCausedKind, IsCausedNote}
 use Rattle.trail.specs.Victim.{IsVictimKind}
-use Rattle.trail.specs.Laws.{IsLawful, IsStillKind}
+use Rattle.trail.specs.Laws.{IsLawful}
 use Rattle.trail.specs.Promises.{IsPromised}
 use Rattle.desk.specs.declared.calls.Caller.{Caller}
 use Rattle.desk.specs.Changes.{LeavesDesk}
@@ -26,30 +32,31 @@ use Rattle.desk.specs.State.{State}
 use Rattle.desk.specs.Steps.{next_entry}
 use Rattle.desk.specs.Logged.{IsLogged, IsLoggedKind}
 use Rattle.script_run.specs.Openings.{Start, IsKindWithin}
-use Rattle.script_run.specs.Work.{Senses, Working, SoFar, AreOf, AreFalling, with_answer, with_note, next_receipt}
+use Rattle.script_run.specs.Work.{IsCalling, leaves_chunks, Working, SoFar, AreOf, AreFalling, with_answer, with_note, next_receipt}
 use Rattle.script_run.proofs.Fixes.{falling_note}
 use Rattle.script_run.proofs.Values.{faults_up}
+use Rattle.script_run.proofs.Calling.{own_more, calling_answer, calling_receipt, calling_under, marks, numbered_by, next_by, numbered_entries, together_by}
 
 abbrev pub me : Working → Caller
 me w = record { pass = w.pass; number = w.next }
 
-abbrev pub Left : {D : Type 0} → Senses D → State D → State D → Type 0
-Left sense old new = LeavesDesk sense.size sense.tells sense.spaces sense.faults old new
+abbrev pub Left : {D : Type 0} → (D → DiskSeen) → State D → State D → Type 0
+Left seen old new = LeavesDesk seen old new
 
-pub left_same : {D : Type 0} (sense : Senses D) (old new : State D) → new.config ≡ old.config → new.instance ≡ old.instance → new.disk ≡ old.disk → Left sense old new
-left_same {D} sense old new config instance disk =
-    let F : D → Type 0 = λ d. sense.faults old.disk ≤ sense.faults d in
+pub left_same : {D : Type 0} (seen : D → DiskSeen) (old new : State D) → new.config ≡ old.config → new.instance ≡ old.instance → new.disk ≡ old.disk → Left seen old new
+left_same {D} seen old new config instance disk =
+    let F : D → Type 0 = λ d. (seen old.disk).faults ≤ (seen d).faults in
     record {
       config = config;
       instance = instance;
-      sizes = ap sense.size disk;
-      telling = ap sense.tells disk;
-      spaces_are = λ s. ap (λ d. sense.spaces d s) disk;
+      sizes = ap (λ (d : D). (seen d).size) disk;
+      telling = ap (λ (d : D). (seen d).tells) disk;
+      spaces_are = λ s. ap (λ d. (seen d).spaces s) disk;
       later = subst F (sym disk) (omega arith);
     }
 
-pub left_more : {D : Type 0} (sense : Senses D) (a b c : State D) → Left sense a b → Left sense b c → Left sense a c
-left_more sense a b c f g = record {
+pub left_more : {D : Type 0} (seen : D → DiskSeen) (a b c : State D) → Left seen a b → Left seen b c → Left seen a c
+left_more seen a b c f g = record {
   config = g.config ∙ f.config;
   instance = g.instance ∙ f.instance;
   sizes = g.sizes ∙ f.sizes;
@@ -63,8 +70,8 @@ on_some None P Q f h = h
 on_some (Some x) P Q f h = f x refl h
 
 -- What a call leaves of desk and log, beside the images: no count fell, and the log has what the history says.
-pub record Moves {D : Type 0} (sense : Senses D) (old new : State D) (was is : Seen) : Type 0 where
-  pub left : Left sense old new
+pub record Moves {D : Type 0} (seen : D → DiskSeen) (old new : State D) (was is : Seen) : Type 0 where
+  pub left : Left seen old new
   pub later : was.faults ≤ is.faults
   pub logged : IsLogged is new.history
 
@@ -76,9 +83,9 @@ pub logged_rest : (log : Seen) (e : Entry) (h new : List Entry) → new ≡ e �
 logged_rest log e h new grown logged = let I : List Entry → Type 0 = λ l. IsLogged log l in let all : IsLogged log (e ∷ h) = subst I grown logged in all.1
 
 -- the trail so far, beside the devices as they are after the call
-pub so_far_placed : {D : Type 0} (sense : Senses D) (o : Opening) (start : Start) (old new : State D) (was is : Seen) (w : Working) (past : List Event)
-    → SoFar sense o start old was w past [] → Moves sense old new was is → IsLogged is old.history → SoFar sense o start (placed old new old.history) is w past []
-so_far_placed sense o start old new was is w past so moves logged = record {
+pub so_far_placed : {D : Type 0} (seen : D → DiskSeen) (o : Opening) (start : Start) (old new : State D) (was is : Seen) (w : Working) (past : List Event)
+    → SoFar seen o start old was w past [] → Moves seen old new was is → IsLogged is old.history → SoFar seen o start (placed old new old.history) is w past []
+so_far_placed seen o start old new was is w past so moves logged = record {
   good = so.good;
   promised = so.promised;
   entries_are = so.entries_are;
@@ -87,13 +94,14 @@ so_far_placed sense o start old new was is w past so moves logged = record {
   config_is = so.config_is;
   pages_are = λ s. so.pages_are s ∙ ap (λ n. unwrap_or n 0) (sym (moves.left.spaces_are s));
   logged = logged;
-  faults = faults_up start (sense.faults old.disk) was.faults (sense.faults new.disk) is.faults old.history moves.left.later moves.later so.faults;
+  faults = faults_up start (seen old.disk).faults was.faults (seen new.disk).faults is.faults old.history moves.left.later moves.later so.faults;
   last_fault = omega (arith, so.last_fault, moves.left.later);
   last_log_fault = omega (arith, so.last_log_fault, moves.later);
   low_is = omega (arith, so.low_is, moves.left.later);
   low_log = omega (arith, so.low_log, moves.later);
-  number = so.number;
   calls = so.calls;
+  steady = so.steady;
+  empty_handed = so.empty_handed;
   held = so.held;
   falling = so.falling;
   alone = so.alone;
@@ -101,44 +109,51 @@ so_far_placed sense o start old new was is w past so moves logged = record {
 }
 
 -- and at the end of the call
-pub so_far_after : {D : Type 0} (sense : Senses D) (o : Opening) (start : Start) (old new : State D) (log : Seen) (w : Working) (past : List Event) (pending : List Kind) (h : List Entry)
-    → Left sense old new → new.history ≡ h → SoFar sense o start (placed old new h) log w past pending → SoFar sense o start new log w past pending
-so_far_after {D} sense o start old new log w past pending h left grown so =
+pub so_far_after : {D : Type 0} (seen : D → DiskSeen) (o : Opening) (start : Start) (old new : State D) (log : Seen) (w : Working) (past : List Event) (pending : List Entry) (h : List Entry)
+    → Left seen old new → new.history ≡ h → SoFar seen o start (placed old new h) log w past pending → SoFar seen o start new log w past pending
+so_far_after {D} seen o start old new log w past pending h left grown so =
     let make : Config → ℕ → List Entry → State D = λ c i l. record { config = c; instance = i; history = l; disk = new.disk } in
-    let S : State D → Type 0 = λ desk. SoFar sense o start desk log w past pending in
+    let S : State D → Type 0 = λ desk. SoFar seen o start desk log w past pending in
     subst (λ c. S (make c new.instance new.history)) (sym left.config)
     (subst (λ i. S (make old.config i new.history)) (sym left.instance) (subst (λ l. S (make old.config old.instance l)) (sym grown) so))
 
 -- what the next entry of the worker's call adds
-pub record Adds {D : Type 0} (sense : Senses D) (o : Opening) (start : Start) (desk : State D) (log : Seen) (w : Working) (past : List Event) (k : Kind) : Type 0 where
+pub record Adds {D : Type 0} (seen : D → DiskSeen) (o : Opening) (start : Start) (desk : State D) (log : Seen) (w : Working) (past : List Event) (k : Kind) : Type 0 where
   pub logged : IsLoggedKind log k
-  pub within : IsKindWithin start (sense.faults desk.disk) log.faults k
-  pub last : after_cause disk_faults_after k (disk_faults desk.history) ≤ sense.faults desk.disk
-  pub last_log : after_cause log_faults_after k (log_faults desk.history) ≤ log.faults
+  pub within : IsKindWithin start (seen desk.disk).faults log.faults k
+  pub last : disk_faults_after k (disk_faults desk.history) ≤ (seen desk.disk).faults
+  pub last_log : log_faults_after k (log_faults desk.history) ≤ log.faults
   pub lawful : IsLawful o past (event.Entry (next_entry desk (me w) k))
-  pub promised : IsPromised o past (event.Entry (next_entry desk (me w) k))
-  pub exact : AreExactWords desk.history w.fixed (words_told k)
+  pub promised : IsPromised o start.pages (entries past) (own w.pass past) (event.Entry (next_entry desk (me w) k))
+  pub exact : IsTrueKind desk.history w.fixed k
 
 -- the desk behind that entry
 abbrev pub grown : {D : Type 0} → State D → Working → Kind → State D
 grown desk w k = record desk { history = next_entry desk (me w) k ∷ desk.history }
 
-exact_event : {D : Type 0} (sense : Senses D) (o : Opening) (start : Start) (desk : State D) (log : Seen) (w : Working) (past : List Event) (pending : List Kind) (k : Kind)
-    → SoFar sense o start desk log w past pending → AreExactWords desk.history w.fixed (words_told k) → AreExactWords (entries past) (held_by past w.pass) (words_told k)
-exact_event sense o start desk log w past pending k so exact =
-    let X : List Entry → List Held → Type 0 = λ h held. AreExactWords h held (words_told k) in
-    subst (λ h. X h (held_by past w.pass)) (sym so.entries_are) (subst (λ held. X desk.history held) (sym so.held) exact)
+exact_kind : {D : Type 0} (seen : D → DiskSeen) (o : Opening) (start : Start) (desk : State D) (log : Seen) (w : Working) (past : List Event) (pending : List Entry) (k : Kind)
+    → SoFar seen o start desk log w past pending → IsTrueKind desk.history w.fixed k
+    → IsTrueBy (nat_eq w.pass w.pass) (entries past) (own w.pass past) (event.Entry (next_entry desk (me w) k))
+exact_kind seen o start desk log w past pending k so exact =
+    let X : List Entry → List Held → Type 0 = λ h held. IsTrueKind h held k in
+    let B : Bool → Type 0 = λ b. IsTrueBy b (entries past) (own w.pass past) (event.Entry (next_entry desk (me w) k)) in
+    subst B (sym (eq-eqb w.pass w.pass refl)) (subst (λ h. X h (held_by past w.pass)) (sym so.entries_are) (subst (λ held. X desk.history held) (sym so.held) exact))
+
+held_more : (w : Working) (e : Entry) (past : List Event) → e.caller ≡ w.pass → e.number ≡ w.next → held_by past w.pass ≡ w.fixed → held_by (event.Entry e ∷ past) w.pass ≡ held_after_kind w.next e.kind w.fixed
+held_more w e past is number held = ap open_fixes (own_more w.pass (event.Entry e) past is) ∙ ap (λ n. held_after_kind n e.kind (held_by past w.pass)) number ∙ ap (held_after_kind w.next e.kind) held
 
 -- an entry that is the answer of the worker's call
-pub so_far_answer : {D : Type 0} (sense : Senses D) (o : Opening) (start : Start) (desk : State D) (log : Seen) (w : Working) (past : List Event) (pending : List Kind) (k : Kind)
-    → SoFar sense o start desk log w past pending → Adds sense o start desk log w past k → kind_answers k ≡ true → AreFalling (w.next + 1) (held_after_kind w.next k w.fixed)
-    → SoFar sense o start (grown desk w k) log (with_answer w k) (event.Entry (next_entry desk (me w) k) ∷ past) []
-so_far_answer sense o start desk log w past pending k so adds answers falls =
-    let own : nat_eq w.pass w.pass ≡ true = eq-eqb w.pass w.pass refl in
+pub so_far_answer : {D : Type 0} (seen : D → DiskSeen) (o : Opening) (start : Start) (desk : State D) (log : Seen) (w : Working) (past : List Event) (pending : List Entry) (k : Kind)
+    → SoFar seen o start desk log w past pending → Adds seen o start desk log w past k → kind_answers k ≡ true → AreFalling (w.next + 1) (held_after_kind w.next k w.fixed)
+    → leaves_chunks k ≡ true → (book desk.config (next_entry desk (me w) k ∷ desk.history)).hand ≡ None
+    → SoFar seen o start (grown desk w k) log (with_answer w k) (event.Entry (next_entry desk (me w) k) ∷ past) []
+so_far_answer seen o start desk log w past pending k so adds answers falls keeps handless =
+    let e : Entry = next_entry desk (me w) k in
+    let C : List Event → Type 0 = λ mine. IsCalling mine (w.next + 1) [] in
     record {
       good = (adds.lawful, so.good);
       promised = (adds.promised, so.promised);
-      entries_are = ap (λ h. next_entry desk (me w) k ∷ h) so.entries_are;
+      entries_are = ap (λ h. e ∷ h) so.entries_are;
       receipts_are = so.receipts_are;
       first_is = so.first_is;
       config_is = so.config_is;
@@ -149,24 +164,26 @@ so_far_answer sense o start desk log w past pending k so adds answers falls =
       last_log_fault = adds.last_log;
       low_is = so.low_is;
       low_log = so.low_log;
-      number = ap (λ (b : Bool). cond b (cond (kind_answers k) (w.next + 1) w.next) (next_number past w.pass)) own ∙ ap (λ (b : Bool). cond b (w.next + 1) w.next) answers;
-      calls = ap (λ (b : Bool). cond b (cond (kind_answers k) [] (k ∷ under_way past w.pass)) (under_way past w.pass)) own ∙ ap (λ (b : Bool). cond b [] (k ∷ under_way past w.pass)) answers;
-      held = ap (λ (b : Bool). cond b (held_after_kind w.next k (held_by past w.pass)) (held_by past w.pass)) own ∙ ap (held_after_kind w.next k) so.held;
+      calls = subst C (sym (own_more w.pass (event.Entry e) past refl)) (calling_answer e (own w.pass past) w.next pending so.calls refl answers);
+      steady = (keeps, so.steady);
+      empty_handed = λ none. handless;
+      held = held_more w e past refl refl so.held;
       falling = falls;
       alone = (refl, so.alone);
-      exact = (exact_event sense o start desk log w past pending k so adds.exact, so.exact);
+      exact = (exact_kind seen o start desk log w past pending k so adds.exact, so.exact);
     }
 
 -- an entry before the answer
-pub so_far_under : {D : Type 0} (sense : Senses D) (o : Opening) (start : Start) (desk : State D) (log : Seen) (w : Working) (past : List Event) (pending : List Kind) (k : Kind)
-    → SoFar sense o start desk log w past pending → Adds sense o start desk log w past k → kind_answers k ≡ false → held_after_kind w.next k w.fixed ≡ w.fixed
-    → SoFar sense o start (grown desk w k) log w (event.Entry (next_entry desk (me w) k) ∷ past) (k ∷ pending)
-so_far_under sense o start desk log w past pending k so adds silent kept =
-    let own : nat_eq w.pass w.pass ≡ true = eq-eqb w.pass w.pass refl in
+pub so_far_under : {D : Type 0} (seen : D → DiskSeen) (o : Opening) (start : Start) (desk : State D) (log : Seen) (w : Working) (past : List Event) (pending : List Entry) (k : Kind)
+    → SoFar seen o start desk log w past pending → Adds seen o start desk log w past k → kind_answers k ≡ false → held_after_kind w.next k w.fixed ≡ w.fixed → leaves_chunks k ≡ true
+    → SoFar seen o start (grown desk w k) log w (event.Entry (next_entry desk (me w) k) ∷ past) (next_entry desk (me w) k ∷ pending)
+so_far_under seen o start desk log w past pending k so adds silent kept keeps =
+    let e : Entry = next_entry desk (me w) k in
+    let C : List Event → Type 0 = λ mine. IsCalling mine w.next (e ∷ pending) in
     record {
       good = (adds.lawful, so.good);
       promised = (adds.promised, so.promised);
-      entries_are = ap (λ h. next_entry desk (me w) k ∷ h) so.entries_are;
+      entries_are = ap (λ h. e ∷ h) so.entries_are;
       receipts_are = so.receipts_are;
       first_is = so.first_is;
       config_is = so.config_is;
@@ -177,26 +194,33 @@ so_far_under sense o start desk log w past pending k so adds silent kept =
       last_log_fault = adds.last_log;
       low_is = so.low_is;
       low_log = so.low_log;
-      number = ap (λ (b : Bool). cond b (cond (kind_answers k) (w.next + 1) w.next) (next_number past w.pass)) own ∙ ap (λ (b : Bool). cond b (w.next + 1) w.next) silent;
-      calls = ap (λ (b : Bool). cond b (cond (kind_answers k) [] (k ∷ under_way past w.pass)) (under_way past w.pass)) own ∙ ap (λ (b : Bool). cond b [] (k ∷ under_way past w.pass)) silent
-          ∙ ap (λ l. k ∷ l) so.calls;
-      held = ap (λ (b : Bool). cond b (held_after_kind w.next k (held_by past w.pass)) (held_by past w.pass)) own ∙ ap (held_after_kind w.next k) so.held ∙ kept;
+      calls = subst C (sym (own_more w.pass (event.Entry e) past refl)) (calling_under e (own w.pass past) w.next pending so.calls refl silent);
+      steady = (keeps, so.steady);
+      empty_handed = λ none. absurd (some_made e pending none);
+      held = held_more w e past refl refl so.held ∙ kept;
       falling = so.falling;
       alone = (refl, so.alone);
-      exact = (exact_event sense o start desk log w past pending k so adds.exact, so.exact);
+      exact = (exact_kind seen o start desk log w past pending k so adds.exact, so.exact);
     }
+  where
+    some_made : (e : Entry) (made : List Entry) → e ∷ made ≡ [] → ⊥
+    some_made e made none = cc
 
--- a receipt
-pub so_far_receipt : {D : Type 0} (sense : Senses D) (o : Opening) (start : Start) (desk : State D) (log : Seen) (w : Working) (past : List Event) (n : Note)
-    → SoFar sense o start desk log w past [] → IsLawful o past (event.Receipt (next_receipt desk w n)) → IsPromised o past (event.Receipt (next_receipt desk w n))
-    → SoFar sense o start desk log (with_note desk w n) (event.Receipt (next_receipt desk w n) ∷ past) []
-so_far_receipt {D} sense o start desk log w past n so lawful promised =
-    let own : nat_eq w.pass w.pass ≡ true = eq-eqb w.pass w.pass refl in
+-- a receipt; the worker's receipts tell no words
+pub so_far_receipt : {D : Type 0} (seen : D → DiskSeen) (o : Opening) (start : Start) (desk : State D) (log : Seen) (w : Working) (past : List Event) (n : Note)
+    → SoFar seen o start desk log w past [] → IsLawful o past (event.Receipt (next_receipt desk w n)) → IsPromised o start.pages (entries past) (own w.pass past) (event.Receipt (next_receipt desk w n))
+    → IsTrueNote (entries past) (held_by past w.pass) n
+    → SoFar seen o start desk log (with_note desk w n) (event.Receipt (next_receipt desk w n) ∷ past) []
+so_far_receipt {D} seen o start desk log w past n so lawful promised exact =
+    let r = next_receipt desk w n in
+    let C : List Event → Type 0 = λ mine. IsCalling mine (w.next + 1) [] in
+    let B : Bool → Type 0 = λ b. IsTrueBy b (entries past) (own w.pass past) (event.Receipt r) in
+    let mine = own_more w.pass (event.Receipt r) past refl in
     record {
       good = (lawful, so.good);
       promised = (promised, so.promised);
       entries_are = so.entries_are;
-      receipts_are = ap (λ rs. next_receipt desk w n ∷ rs) so.receipts_are;
+      receipts_are = ap (λ rs. r ∷ rs) so.receipts_are;
       first_is = so.first_is;
       config_is = so.config_is;
       pages_are = so.pages_are;
@@ -206,53 +230,74 @@ so_far_receipt {D} sense o start desk log w past n so lawful promised =
       last_log_fault = so.last_log_fault;
       low_is = so.low_is;
       low_log = so.low_log;
-      number = ap (λ (b : Bool). cond b (w.next + 1) (next_number past w.pass)) own;
-      calls = ap (λ (b : Bool). cond b [] (under_way past w.pass)) own;
-      held = ap (λ (b : Bool). cond b (held_after_note w.next n (held_by past w.pass)) (held_by past w.pass)) own ∙ ap (held_after_note w.next n) so.held;
+      calls = subst C (sym mine) (calling_receipt r (own w.pass past) w.next [] so.calls refl);
+      steady = so.steady;
+      empty_handed = so.empty_handed;
+      held = ap open_fixes mine ∙ ap (held_after_note w.next n) so.held;
       falling = falling_note w.next n w.fixed so.falling;
       alone = (refl, so.alone);
-      exact = (tt, so.exact);
+      exact = (subst B (sym (eq-eqb w.pass w.pass refl)) exact, so.exact);
     }
 
--- a lawful entry of the worker's call
-pub lawful_entry : {D : Type 0} (sense : Senses D) (o : Opening) (start : Start) (desk : State D) (log : Seen) (w : Working) (past : List Event) (pending : List Kind) (k : Kind)
-    → SoFar sense o start desk log w past pending → IsTogether past w.pass → MayPrecede desk.history pending k → IsLegalKind o past w.pass k → IsStillKind past k
-    → IsCoveredKind (entries past) k → IsCausedKind o past w.pass k → IsVictimKind o.config (entries past) w.pass w.next k
+-- A lawful entry of the worker's call, which began at the history `base`.
+pub lawful_entry : {D : Type 0} (seen : D → DiskSeen) (o : Opening) (start : Start) (desk : State D) (log : Seen) (w : Working) (past : List Event) (pending base : List Entry) (k : Kind)
+    → SoFar seen o start desk log w past pending → desk.history ≡ pending ++ base → MayPrecede desk.history pending k → IsLegalKind o (entries past) (own w.pass past) w.pass w.next k
+    → IfSome (departure_in k) (λ d. IsUnfixed past d.page) → IfSome (write_in k) (λ v. IsCoveredWrite (entries past) v.page v.lsn v.upto)
+    → IsCausedKind o (entries past) (own w.pass past) w.pass w.next k → IsVictimKind o.config (entries past) w.pass w.next k → IsWithdrawalKind o.config (entries past) w.pass w.next k
     → IsLawful o past (event.Entry (next_entry desk (me w) k))
-lawful_entry sense o start desk log w past pending k so together before legal still covered causes victim = record {
-  legal = record {
-    place = ap (λ n. mark n desk.history + 1) so.first_is ∙ ap (λ h. mark o.first h + 1) (sym so.entries_are);
-    number = sym so.number;
-    together = together;
-    before = let P : List Entry → List Kind → Type 0 = λ h made. MayPrecede h made k in subst (λ made. P (entries past) made) (sym so.calls) (subst (λ h. P h pending) (sym so.entries_are) before);
-    kind = legal;
-  };
-  still = still;
-  covered = covered;
-  causes = causes;
-  victim = victim;
-}
+lawful_entry seen o start desk log w past pending base k so stands before legal still covered causes victim withdrawal =
+    let P : List Entry → List Entry → Type 0 = λ h made. MayPrecede h made k in
+    let T : ℕ → Type 0 = λ n. IsTogether n (made w.next (own w.pass past)) in
+    let place : mark desk.config.first desk.history + 1 ≡ mark o.first (entries past) + 1 = ap (λ n. mark n desk.history + 1) so.first_is ∙ ap (λ h. mark o.first h + 1) (sym so.entries_are) in
+    record {
+      legal = record {
+        place = place;
+        number = numbered_by (own w.pass past) w.next pending so.calls;
+        together = subst T (sym place) (subst (λ made. IsTogether (mark o.first (entries past) + 1) made) (sym so.calls.made_are) (together_by o.first pending base (entries past) (so.entries_are ∙ stands)));
+        before = subst (λ made. P (entries past) made) (sym so.calls.made_are) (subst (λ h. P h pending) (sym so.entries_are) before);
+        kind = legal;
+      };
+      order = tt;
+      still = still;
+      covered = covered;
+      causes = causes;
+      victim = victim;
+      withdrawal = withdrawal;
+    }
 
-in_order_of : (past : List Event) (c n : ℕ) → AreOf c past → next_number past c ≡ n → IsInOrder past c n
-in_order_of [] c n of counted = tt
-in_order_of (event.Entry e ∷ past) c n of counted = tt
-in_order_of (event.Receipt r ∷ past) c n of counted =
-    let after : r.number + 1 ≡ n = sym (ap (λ (b : Bool). cond b (r.number + 1) (next_number past c)) (eq-eqb r.caller c of.0)) ∙ counted in
-    inr (of.0, omega arith)
+last_number : (r : Rattle.trail.specs.declared.event.Receipt.Receipt) (c n : ℕ) (past : List Event) → r.caller ≡ c → AreOf c past → calls_of (own c (event.Receipt r ∷ past)) < n → r.number < n
+last_number r c n past is of less =
+    let parts = Rattle.script_run.proofs.Calling.most_parts r.number (calls_of (own c past)) n (subst (λ (m : ℕ). m < n) (ap calls_of (own_more c (event.Receipt r) past is)) less) in parts.0
+
+in_order_of : (desk_place : ℕ) (past : List Event) (c n : ℕ) (note : Note) → AreOf c past → calls_of (own c past) < n
+    → IsInOrder past (event.Receipt (record { place = desk_place; caller = c; number = n; note = note }))
+in_order_of place [] c n note of less = tt
+in_order_of place (event.Entry e ∷ past) c n note of less = tt
+in_order_of place (event.Receipt r ∷ past) c n note of less = inr (of.0, last_number r c n past of.0 of.1 less)
 
 -- a lawful receipt of the worker's call; the worker is the only caller, so its receipts rise
-pub lawful_receipt : {D : Type 0} (sense : Senses D) (o : Opening) (start : Start) (desk : State D) (log : Seen) (w : Working) (past : List Event) (n : Note)
-    → SoFar sense o start desk log w past [] → IsLegalNote o past w.pass n → IsCausedNote o past w.pass n → IsLawful o past (event.Receipt (next_receipt desk w n))
-lawful_receipt sense o start desk log w past n so legal causes = record {
+pub lawful_receipt : {D : Type 0} (seen : D → DiskSeen) (o : Opening) (start : Start) (desk : State D) (log : Seen) (w : Working) (past : List Event) (n : Note)
+    → SoFar seen o start desk log w past [] → IsLegalNote o (entries past) (own w.pass past) n → IsCausedNote o (entries past) (own w.pass past) w.pass w.next n
+    → IsLawful o past (event.Receipt (next_receipt desk w n))
+lawful_receipt seen o start desk log w past n so legal causes = record {
   legal = record {
     place = ap (λ m. mark m desk.history) so.first_is ∙ ap (mark o.first) (sym so.entries_are);
-    order = in_order_of past w.pass w.next so.alone so.number;
-    number = sym so.number;
-    before = so.calls;
+    number = next_by (own w.pass past) w.next so.calls;
     note = legal;
   };
+  order = in_order_of (mark desk.config.first desk.history) past w.pass w.next n so.alone (let c = next_by (own w.pass past) w.next so.calls in omega (arith, c));
   still = tt;
   covered = tt;
   causes = causes;
   victim = tt;
+  withdrawal = tt;
 }
+
+-- the places behind the mark, counted by entries
+pub room_of : {D : Type 0} (seen : D → DiskSeen) (o : Opening) (start : Start) (desk : State D) (log : Seen) (w : Working) (past : List Event) (pending : List Entry) (need : ℕ)
+    → SoFar seen o start desk log w past pending → desk.config.first + length desk.history + need ≤ LIMIT → mark desk.config.first desk.history + need ≤ LIMIT
+room_of seen o start desk log w past pending need so room =
+    let N : ℕ → List Entry → Type 0 = λ n h. AreNumbered n h in
+    let numbered : AreNumbered desk.config.first desk.history = subst (λ n. N n desk.history) (sym so.first_is) (subst (λ h. N o.first h) so.entries_are (numbered_entries o past so.good)) in
+    let count = marks desk.config.first desk.history numbered in
+    omega (arith, count, room)

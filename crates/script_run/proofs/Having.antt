@@ -6,6 +6,7 @@ use Rattle.page_ids.specs.Same.{same_page}
 use Rattle.page_ids.specs.declared.config.Config.{Config}
 use Rattle.page_ids.specs.declared.frame_word.Word.{Word}
 use Rattle.page_ids.specs.declared.ids.PageId.{PageId}
+use Rattle.page_disk.specs.Disks.{DiskSeen}
 use Rattle.redo_mark.specs.Logs.{Seen}
 use Rattle.trail.specs.declared.event.Dirty.{Dirty}
 use Rattle.trail.specs.declared.event.Entry.{Entry}
@@ -14,14 +15,15 @@ use Rattle.trail.specs.declared.event.Event.{Event}
 use Rattle.trail.specs.declared.event.Event.TheVariants as event
 use Rattle.trail.specs.declared.event.Kind.{Kind}
 use Rattle.trail.specs.declared.event.Kind.TheVariants as kind
-use Rattle.trail.specs.Places.{entries}
+use Rattle.trail.specs.Trails.{callers, entries, own, Opening}
 use Rattle.trail.specs.History.{home, change, value, disk_faults}
 use Rattle.trail.specs.Dirt.{cleaned, dirty, dirt_of, is_dirty}
-use Rattle.trail.specs.Calls.{is_answer, kind_answers, held_by, newest_of, under_way}
-use Rattle.trail.specs.Opening.{Opening}
-use Rattle.trail.specs.Legal as legal
-use Rattle.trail.specs.Laws.{IsGood, IsUnfixed}
-use Rattle.trail.specs.Victim.{IsSought, before_write, is_write_of}
+use Rattle.trail.specs.Calls.{calls_of, is_answer, held_by, newest_fix, open_fixes}
+use Rattle.trail.specs.Preceding.{GotFrame, kinds}
+use Rattle.trail.specs.Book.{book, frame_in_turn, next_frame}
+use Rattle.trail.proofs.Judging.{of_all, turn_of_all, turn_of_own}
+use Rattle.trail.specs.Still.{IsUnfixed}
+use Rattle.trail.specs.Victim.{IsSought, before_write}
 use Rattle.frame_words.specs.Plain.{Plain}
 use Rattle.frame_words.specs.Rows.{Row}
 use Rattle.desk.specs.Ledger.{entry_behind}
@@ -30,98 +32,70 @@ use Rattle.desk.specs.Steps.{row_in}
 use Rattle.desk.specs.Logged.{IsLogged}
 use Rattle.desk.specs.Victims.{IsCleanedFirst, IsWrittenBack, IsEvicted, IsHad}
 use Rattle.script_run.specs.Openings.{Start}
-use Rattle.script_run.specs.Work.{Senses, Working, SoFar, IsReady, AreOf, fixes_in}
+use Rattle.script_run.specs.Work.{Working, SoFar, IsReady, AreOf, fixes_in}
 use Rattle.script_run.proofs.Fixes.{same_self, one_page, number_is}
+use Rattle.script_run.proofs.Handing.{evict_hand, none_withdrawn}
+use Rattle.script_run.proofs.Calling.{most_parts, next_by, other_number, own_more}
 use Rattle.script_run.proofs.Growing.{me, placed, logged_rest, lawful_entry, so_far_under}
 use Rattle.script_run.proofs.Exact.{exact_words, none_newest}
 
 -- What stands before a page is read in, at this history: the call had these entries, and no answer.
-pub record Readied {D : Type 0} (sense : Senses D) (o : Opening) (start : Start) (old new : State D) (log : Seen) (w : Working) (past : List Event) (p : PageId) (h : List Entry) : Type 0 where
-  pub made : List Kind
+pub record Readied {D : Type 0} (seen : D → DiskSeen) (o : Opening) (start : Start) (old new : State D) (log : Seen) (w : Working) (past : List Event) (p : PageId) (h : List Entry) : Type 0 where
+  pub made : List Entry
   pub more : List Event
   pub quiet : filter is_answer more ≡ []
-  pub so_far : SoFar sense o start (placed old new h) log w (more ++ past) made
-  pub together : legal.IsTogether (more ++ past) w.pass
-  pub had : legal.IsHad p made
+  pub so_far : SoFar seen o start (placed old new h) log w (more ++ past) made
+  pub began : h ≡ made ++ old.history
+  pub got : GotFrame p (kinds made)
+  -- the frame in turn is for this call
+  pub taken : (f : ℕ) → frame_in_turn (book old.config h) ≡ Some f → next_frame (book old.config h) w.pass w.next ≡ Some f
   pub faults : disk_faults h ≡ disk_faults old.history
   pub values : (size : ℕ) (base : PageId → Option Content) → value size base h p ≡ value size base old.history p
 
 -- a frame was free, or none is needed
-abbrev pub readied_none : {D : Type 0} (sense : Senses D) (o : Opening) (start : Start) (old new : State D) (log : Seen) (w : Working) (past : List Event) (p : PageId)
-    → SoFar sense o start (placed old new old.history) log w past [] → Readied sense o start old new log w past p old.history
-readied_none sense o start old new log w past p so = record {
+abbrev pub readied_none : {D : Type 0} (seen : D → DiskSeen) (o : Opening) (start : Start) (old new : State D) (log : Seen) (w : Working) (past : List Event) (p : PageId)
+    → SoFar seen o start (placed old new old.history) log w past [] → Readied seen o start old new log w past p old.history
+readied_none seen o start old new log w past p so = record {
   made = [];
   more = [];
   quiet = refl;
   so_far = so;
-  together = inl so.calls;
-  had = tt;
+  began = refl;
+  got = tt;
+  taken = λ f here. turn_of_all (book old.config old.history) w.pass w.next (so.empty_handed refl) ∙ here;
   faults = refl;
   values = λ size base. refl;
 }
 
-not_write : (p : PageId) (k : Kind) → kind_answers k ≡ true → is_write_of p k ≡ false
-not_write p (kind.Load q f) answers = refl
-not_write p (kind.Fix q f clock now) answers = refl
-not_write p (kind.Create q f from to now) answers = refl
-not_write p (kind.Put q at bytes from to) answers = refl
-not_write p (kind.Evict q f passed) answers = refl
-not_write p (kind.Write q lsn upto) answers = absurd (cc)
-not_write p (kind.Move q from to) answers = refl
-not_write p (kind.Withdraw from) answers = refl
-not_write p (kind.Undo from) answers = refl
-not_write p (kind.Shrink chunks) answers = refl
-not_write p (kind.Grow chunks) answers = refl
-not_write p (kind.Resize bytes chunks) answers = refl
-not_write p (kind.Clean written skipped) answers = refl
-not_write p (kind.Check lsn) answers = refl
-not_write p (kind.WatchSet q) answers = refl
-not_write p (kind.WatchAt q f) answers = refl
-not_write p (kind.Occurred q arrived) answers = refl
-not_write p (kind.Unwatch q) answers = refl
-not_write p (kind.Dump pct ids) answers = refl
-not_write p (kind.Refused asked why) answers = refl
+skip_second : (a b c : Bool) (h g : List Entry) → b ≡ false → cond (a && b && c) h g ≡ g
+skip_second true true c h g bad = absurd (cc)
+skip_second true false c h g e = refl
+skip_second false b c h g e = refl
 
-skip_third : (a b c : Bool) (h g : List Entry) → c ≡ false → cond (a && b && c) h g ≡ g
-skip_third a b true h g bad = absurd (cc)
-skip_third true true false h g e = refl
-skip_third true false false h g e = refl
-skip_third false b false h g e = refl
+-- a call that was not begun wrote nothing
+pub no_write_before : (past : List Event) (c n : ℕ) (p : PageId) → AreOf c past → calls_of (own c past) < n → before_write c n p (entries past) ≡ entries past
+no_write_before [] c n p of less = refl
+no_write_before (event.Entry e ∷ past) c n p of less =
+    let C : List Event → Type 0 = λ mine. calls_of mine < n in
+    let parts = most_parts e.number (calls_of (own c past)) n (subst C (own_more c (event.Entry e) past of.0) less) in
+    skip_second (nat_eq e.caller c) (nat_eq e.number n) _ (entries past) (e ∷ entries past) (other_number e.number n parts.0)
+no_write_before (event.Receipt r ∷ past) c n p of less =
+    let C : List Event → Type 0 = λ mine. calls_of mine < n in
+    let parts = most_parts r.number (calls_of (own c past)) n (subst C (own_more c (event.Receipt r) past of.0) less) in
+    no_write_before past c n p of.1 parts.1
 
-answered_last : (own silent : Bool) (k : Kind) (made more : List Kind) → own ≡ true → cond own (cond silent [] (k ∷ made)) more ≡ [] → silent ≡ true
-answered_last true true k made more own none = refl
-answered_last true false k made more own none = absurd (cc)
-answered_last false silent k made more own none = absurd (cc)
-
--- between calls of the one caller the newest entry is no write
-pub no_write_before : (o : Opening) (past : List Event) (c n : ℕ) (p : PageId) → IsGood o past → AreOf c past → under_way past c ≡ [] → before_write c n p (entries past) ≡ entries past
-no_write_before o [] c n p good of none = refl
-no_write_before o (event.Entry e ∷ past) c n p good of none =
-    let answers = answered_last (nat_eq e.caller c) (kind_answers e.kind) e.kind (under_way past c) (under_way past c) (eq-eqb e.caller c of.0) none in
-    skip_third (nat_eq e.caller c) (nat_eq e.number n) (is_write_of p e.kind) (entries past) (e ∷ entries past) (not_write p e.kind answers)
-no_write_before o (event.Receipt r ∷ past) c n p good of none =
-    no_write_before o past c n p good.1 of.1 (ap (under_way past) (sym of.0) ∙ good.0.legal.before)
-
--- another caller holds nothing
-other_caller : (b : Bool) (xs ys : List Held) → b ≡ false → ys ≡ [] → cond b xs ys ≡ []
-other_caller true xs ys bad none = absurd (cc)
-other_caller false xs ys e none = none
-
-apart : (n k c : ℕ) → n ≡ k → nat_eq k c ≡ false → nat_eq n c ≡ false
-apart n k c same other = ap (λ m. nat_eq m c) same ∙ other
-
-held_other : (past : List Event) (k c : ℕ) → AreOf k past → nat_eq k c ≡ false → held_by past c ≡ []
-held_other [] k c of other = refl
-held_other (event.Entry e ∷ past) k c of other = other_caller (nat_eq e.caller c) _ (held_by past c) (apart e.caller k c of.0 other) (held_other past k c of.1 other)
-held_other (event.Receipt r ∷ past) k c of other = other_caller (nat_eq r.caller c) _ (held_by past c) (apart r.caller k c of.0 other) (held_other past k c of.1 other)
+-- another caller has no event
+own_none : (past : List Event) (k c : ℕ) → AreOf k past → nat_eq k c ≡ false → own c past ≡ []
+own_none [] k c of other = refl
+own_none (e ∷ past) k c of other = ap (λ (b : Bool). cond b (e ∷ own c past) (own c past)) (ap (λ m. nat_eq m c) of.0 ∙ other) ∙ own_none past k c of.1 other
 
 -- so a page that the worker does not hold is nobody's
-unfixed_by : (past : List Event) (k : ℕ) (p : PageId) → AreOf k past → newest_of (held_by past k) p ≡ None → IsUnfixed past p
-unfixed_by past k p of none = λ c. cases c (nat_eq k c) refl
+unfixed_by : (past : List Event) (k : ℕ) (p : PageId) → AreOf k past → newest_fix (held_by past k) p ≡ None → IsUnfixed past p
+unfixed_by past k p of none = of_all _ (callers past) (λ c. cases c (nat_eq k c) refl)
   where
-    cases : (c : ℕ) (b : Bool) → nat_eq k c ≡ b → newest_of (held_by past c) p ≡ None
-    cases c true t = ap (λ n. newest_of (held_by past n) p) (sym (number_is k c t)) ∙ none
-    cases c false t = ap (λ held. newest_of held p) (held_other past k c of t)
+    cases : (c : ℕ) (b : Bool) → nat_eq k c ≡ b → newest_fix (held_by past c) p ≡ None
+    cases c true t = ap (λ n. newest_fix (held_by past n) p) (sym (number_is k c t)) ∙ none
+    cases c false t = ap (λ mine. newest_fix (open_fixes mine) p) (own_none past k c of t)
 
 clean_again : (p : PageId) (ds : List Dirty) → dirt_of (cleaned p ds) p ≡ None
 clean_again p [] = refl
@@ -132,13 +106,13 @@ clean_again p (d ∷ ds) = pick (same_page d.page p) refl (clean_again p ds)
     pick false e none = ap (λ (b : Bool). cond b (Some d) (dirt_of (cleaned p ds) p)) e ∙ none
 
 -- the victim is clean, behind its write where it was dirty
-record Swept {D : Type 0} (sense : Senses D) (o : Opening) (start : Start) (old new : State D) (log : Seen) (w : Working) (past : List Event) (q : PageId) (mid : List Entry) : Type 0 where
-  made : List Kind
+record Swept {D : Type 0} (seen : D → DiskSeen) (o : Opening) (start : Start) (old new : State D) (log : Seen) (w : Working) (past : List Event) (q : PageId) (mid : List Entry) : Type 0 where
+  made : List Entry
   more : List Event
   quiet : filter is_answer more ≡ []
-  so_far : SoFar sense o start (placed old new mid) log w (more ++ past) made
-  together : legal.IsTogether (more ++ past) w.pass
-  form : (made ≡ []) ⊎ ((lsn : ℕ) × (upto : ℕ) × (made ≡ kind.Write q lsn upto ∷ []))
+  so_far : SoFar seen o start (placed old new mid) log w (more ++ past) made
+  began : mid ≡ made ++ old.history
+  form : (kinds made ≡ []) ⊎ ((lsn : ℕ) × (upto : ℕ) × (kinds made ≡ kind.Write q lsn upto ∷ []))
   clean : is_dirty mid q ≡ false
   before : before_write w.pass w.next q mid ≡ old.history
   homes : (p : PageId) → home mid p ≡ home old.history p
@@ -146,19 +120,19 @@ record Swept {D : Type 0} (sense : Senses D) (o : Opening) (start : Start) (old 
   faults : disk_faults mid ≡ disk_faults old.history
   values : (size : ℕ) (base : PageId → Option Content) (p : PageId) → value size base mid p ≡ value size base old.history p
 
-swept_clean : {D : Type 0} (sense : Senses D) (o : Opening) (start : Start) (old new : State D) (log : Seen) (w : Working) (past : List Event) (q : PageId)
-    → SoFar sense o start (placed old new old.history) log w past [] → is_dirty old.history q ≡ false → Swept sense o start old new log w past q old.history
-swept_clean sense o start old new log w past q so clean =
+swept_clean : {D : Type 0} (seen : D → DiskSeen) (o : Opening) (start : Start) (old new : State D) (log : Seen) (w : Working) (past : List Event) (q : PageId)
+    → SoFar seen o start (placed old new old.history) log w past [] → is_dirty old.history q ≡ false → Swept seen o start old new log w past q old.history
+swept_clean seen o start old new log w past q so clean =
     let B : List Entry → Type 0 = λ h. before_write w.pass w.next q h ≡ h in
     record {
       made = [];
       more = [];
       quiet = refl;
       so_far = so;
-      together = inl so.calls;
+      began = refl;
       form = inl refl;
       clean = clean;
-      before = subst B so.entries_are (no_write_before o past w.pass w.next q so.good so.alone so.calls);
+      before = subst B so.entries_are (no_write_before past w.pass w.next q so.alone (let count = next_by (own w.pass past) w.next so.calls in omega (arith, count)));
       homes = λ p. refl;
       changes = λ f. refl;
       faults = refl;
@@ -171,24 +145,24 @@ own_write true true false h g x y z = absurd (cc)
 own_write true false c h g x y z = absurd (cc)
 own_write false b c h g x y z = absurd (cc)
 
-swept_written : {D : Type 0} (sense : Senses D) (o : Opening) (start : Start) (old new : State D) (log : Seen) (w : Working) (past : List Event) (q : PageId) (mid : List Entry)
-    → SoFar sense o start (placed old new old.history) log w past [] → IsLogged log mid → IsWrittenBack old.config.first (me w) q old.history mid → Swept sense o start old new log w past q mid
-swept_written sense o start old new log w past q mid so logged back =
+swept_written : {D : Type 0} (seen : D → DiskSeen) (o : Opening) (start : Start) (old new : State D) (log : Seen) (w : Working) (past : List Event) (q : PageId) (mid : List Entry)
+    → SoFar seen o start (placed old new old.history) log w past [] → IsLogged log mid → IsWrittenBack old.config.first (me w) q old.history mid → Swept seen o start old new log w past q mid
+swept_written seen o start old new log w past q mid so logged back =
     let k = kind.Write q back.dirt.newest back.upto in
     let at = placed old new old.history in
     let x : Entry = entry_behind old.config.first old.history (me w) k in
     let I : List Entry → Type 0 = λ h. IsLogged log h in
     let all : IsLogged log (x ∷ old.history) = subst I back.entry logged in
     let D : List Entry → Type 0 = λ h. dirt_of (dirty h) q ≡ Some back.dirt in
-    let lawful = lawful_entry sense o start at log w past [] k so (inl so.calls) tt tt tt
-    (record { dirt = back.dirt; is_dirty = subst D (sym so.entries_are) back.was_dirty; newest = refl; logged = back.covered }) tt tt in
-    let there : Swept sense o start old new log w past q (x ∷ old.history) = record {
-      made = k ∷ [];
+    let lawful = lawful_entry seen o start at log w past [] old.history k so refl tt tt tt
+    (record { dirt = back.dirt; is_dirty = subst D (sym so.entries_are) back.was_dirty; newest = refl; logged = back.covered }) tt tt tt in
+    let there : Swept seen o start old new log w past q (x ∷ old.history) = record {
+      made = x ∷ [];
       more = event.Entry x ∷ [];
       quiet = refl;
-      so_far = so_far_under sense o start at log w past [] k so
-          (record { logged = all.0; within = tt; last = so.last_fault; last_log = so.last_log_fault; lawful = lawful; promised = tt; exact = tt }) refl refl;
-      together = inr refl;
+      so_far = so_far_under seen o start at log w past [] k so
+          (record { logged = all.0; within = tt; last = so.last_fault; last_log = so.last_log_fault; lawful = lawful; promised = (record { inside = tt; told = tt }, tt); exact = tt }) refl refl refl;
+      began = refl;
       form = inr (back.dirt.newest, back.upto, refl);
       clean = ap is_some (clean_again q (dirty old.history));
       before = own_write (nat_eq w.pass w.pass) (nat_eq w.next w.next) (same_page q q) old.history (x ∷ old.history) (eq-eqb w.pass w.pass refl) (eq-eqb w.next w.next refl) (same_self q);
@@ -197,15 +171,15 @@ swept_written sense o start old new log w past q mid so logged back =
       faults = refl;
       values = λ size base p. refl;
     } in
-    let S : List Entry → Type 0 = λ h. Swept sense o start old new log w past q h in
+    let S : List Entry → Type 0 = λ h. Swept seen o start old new log w past q h in
     subst S (sym back.entry) there
 
-swept : {D : Type 0} (sense : Senses D) (o : Opening) (start : Start) (old new : State D) (log : Seen) (w : Working) (past : List Event) (q : PageId) (mid : List Entry)
-    → SoFar sense o start (placed old new old.history) log w past [] → IsLogged log mid → IsCleanedFirst old.config.first (me w) q old.history mid → Swept sense o start old new log w past q mid
-swept sense o start old new log w past q mid so logged (inl (clean, same)) =
-    let S : List Entry → Type 0 = λ h. Swept sense o start old new log w past q h in
-    subst S (sym same) (swept_clean sense o start old new log w past q so clean)
-swept sense o start old new log w past q mid so logged (inr back) = swept_written sense o start old new log w past q mid so logged back
+swept : {D : Type 0} (seen : D → DiskSeen) (o : Opening) (start : Start) (old new : State D) (log : Seen) (w : Working) (past : List Event) (q : PageId) (mid : List Entry)
+    → SoFar seen o start (placed old new old.history) log w past [] → IsLogged log mid → IsCleanedFirst old.config.first (me w) q old.history mid → Swept seen o start old new log w past q mid
+swept seen o start old new log w past q mid so logged (inl (clean, same)) =
+    let S : List Entry → Type 0 = λ h. Swept seen o start old new log w past q h in
+    subst S (sym same) (swept_clean seen o start old new log w past q so clean)
+swept seen o start old new log w past q mid so logged (inr back) = swept_written seen o start old new log w past q mid so logged back
 
 -- a page with a home is another one than a page without
 other_page : (h : List Entry) (q p : PageId) (f : ℕ) → home h q ≡ Some f → home h p ≡ None → same_page q p ≡ false
@@ -220,9 +194,9 @@ no_fixes None n is none = absurd (cc)
 no_fixes (Some k) n is none = let same : k ≡ n = cc in sym same ∙ none
 
 -- the victim's frame has no fix, so the worker does not hold the page
-pub victim_free : {D : Type 0} {cleared : List Row} (sense : Senses D) (old had : State D) (frames : Plain) (w : Working) (f : ℕ) → IsReady sense old frames w.fixed
-    → (evicted : IsEvicted old had frames.rows cleared (me w) f) → newest_of w.fixed evicted.page ≡ None
-victim_free sense old had frames w f ready evicted =
+pub victim_free : {D : Type 0} {cleared : List Row} (seen : D → DiskSeen) (old had : State D) (frames : Plain) (w : Working) (f : ℕ) → IsReady seen old frames w.fixed
+    → (evicted : IsEvicted old had frames.rows cleared (me w) f) → newest_fix w.fixed evicted.page ≡ None
+victim_free seen old had frames w f ready evicted =
     let below = ready.homes evicted.page f evicted.housed in
     let inside : f < length frames.rows = omega (arith, ready.tied.whole, below) in
     none_newest old.history w.fixed evicted.page f ready.housed evicted.housed (no_fixes (row_in frames.rows f).held (fixes_in f w.fixed) (ready.held f inside) evicted.unfixed)
@@ -235,56 +209,61 @@ sought_here c d caller number p passed h mid there sought config at before =
     subst (λ config. S config (before_write caller number p there)) (sym config)
     (subst (λ l. S c (before_write caller number p l)) (sym at) (subst (λ l. S c l) (sym before) sought))
 
+in_hand : (b : Rattle.trail.specs.Book.Book) (f c n : ℕ) → b.hand ≡ Some (record { frame = f; caller = c; number = n }) → Some f ≡ frame_in_turn b
+in_hand b f c n is = ap (λ (o : Option Rattle.trail.specs.Book.Hand). Rattle.std.specs.Option.option_map_or (λ (x : Rattle.trail.specs.Book.Hand). Some x.frame) o (Rattle.trail.specs.Book.front b.free)) (sym is)
+
 -- a page left its frame
-readied_evicted : {D : Type 0} {cleared : List Row} (sense : Senses D) (o : Opening) (start : Start) (old new had : State D) (frames : Plain) (log : Seen) (w : Working) (past : List Event) (p : PageId) (f : ℕ)
-    → SoFar sense o start (placed old new old.history) log w past [] → IsReady sense old frames w.fixed → IsLogged log had.history → home old.history p ≡ None
-    → IsEvicted old had frames.rows cleared (me w) f → Readied sense o start old new log w past p had.history
-readied_evicted sense o start old new had frames log w past p f so ready logged absent evicted =
+readied_evicted : {D : Type 0} {cleared : List Row} (seen : D → DiskSeen) (o : Opening) (start : Start) (old new had : State D) (frames : Plain) (log : Seen) (w : Working) (past : List Event) (p : PageId) (f : ℕ)
+    → SoFar seen o start (placed old new old.history) log w past [] → IsReady seen old frames w.fixed → IsLogged log had.history → home old.history p ≡ None
+    → IsEvicted old had frames.rows cleared (me w) f → Readied seen o start old new log w past p had.history
+readied_evicted seen o start old new had frames log w past p f so ready logged absent evicted =
     let q = evicted.page in
     let mid = evicted.mid in
     let k = kind.Evict q f evicted.passed in
     let x : Entry = entry_behind old.config.first mid (me w) k in
-    let s = swept sense o start old new log w past q mid so (logged_rest log x mid had.history evicted.history logged) evicted.cleaned in
+    let s = swept seen o start old new log w past q mid so (logged_rest log x mid had.history evicted.history logged) evicted.cleaned in
     let now : List Event = s.more ++ past in
-    let N : List Held → Type 0 = λ held. newest_of held q ≡ None in
+    let N : List Held → Type 0 = λ held. newest_fix held q ≡ None in
     let H : List Entry → Type 0 = λ h. home h q ≡ Some f in
     let C : List Entry → Type 0 = λ h. is_dirty h q ≡ false in
-    let lawful = lawful_entry sense o start (placed old new mid) log w now s.made k s.so_far s.together tt tt
-    (unfixed_by now w.pass q s.so_far.alone (subst N (sym s.so_far.held) (victim_free sense old had frames w f ready evicted))) tt tt
+    let lawful = lawful_entry seen o start (placed old new mid) log w now s.made old.history k s.so_far s.began tt tt
+    (unfixed_by now w.pass q s.so_far.alone (subst N (sym s.so_far.held) (victim_free seen old had frames w f ready evicted))) tt tt
     (record {
       sought = sought_here old.config o.config w.pass w.next q evicted.passed old.history mid (entries now) evicted.sought (sym so.config_is) s.so_far.entries_are s.before;
       clean = subst C (sym s.so_far.entries_are) s.clean;
       housed = subst H (sym s.so_far.entries_are) (s.homes q ∙ evicted.housed);
-    }) in
-    let there : Readied sense o start old new log w past p (x ∷ mid) = record {
-      made = k ∷ s.made;
+    }) tt in
+    let handed : (book old.config (x ∷ mid)).hand ≡ Some (record { frame = f; caller = w.pass; number = w.next }) = evict_hand old.config.frames x q f evicted.passed (book old.config mid) (none_withdrawn old.config mid s.so_far.steady) in
+    let there : Readied seen o start old new log w past p (x ∷ mid) = record {
+      made = x ∷ s.made;
       more = event.Entry x ∷ s.more;
       quiet = s.quiet;
-      so_far = so_far_under sense o start (placed old new mid) log w now s.made k s.so_far (record {
+      so_far = so_far_under seen o start (placed old new mid) log w now s.made k s.so_far (record {
         logged = tt;
         within = tt;
         last = s.so_far.last_fault;
         last_log = s.so_far.last_log_fault;
         lawful = lawful;
-        promised = evicted.rising;
-        exact = exact_words sense old frames w.fixed mid evicted.passed s.homes s.changes ready evicted.found;
-      }) refl refl;
-      together = inr refl;
-      had = (other_page old.history q p f evicted.housed absent, s.form);
+        promised = (record { inside = tt; told = tt }, evicted.rising);
+        exact = exact_words seen old frames w.fixed mid evicted.passed s.homes s.changes ready evicted.found;
+      }) refl refl refl;
+      began = ap (λ l. x ∷ l) s.began;
+      got = (other_page old.history q p f evicted.housed absent, s.form);
+      taken = λ g here. turn_of_own (book old.config (x ∷ mid)) w.pass w.next f handed ∙ in_hand (book old.config (x ∷ mid)) f w.pass w.next handed ∙ here;
       faults = s.faults;
       values = λ size base. s.values size base p;
     } in
-    let R : List Entry → Type 0 = λ h. Readied sense o start old new log w past p h in
+    let R : List Entry → Type 0 = λ h. Readied seen o start old new log w past p h in
     subst R (sym evicted.history) there
 
-pub readied : {D : Type 0} {cleared : List Row} (sense : Senses D) (o : Opening) (start : Start) (old new had : State D) (frames : Plain) (log : Seen) (w : Working) (past : List Event) (p : PageId) (f : ℕ)
-    → SoFar sense o start (placed old new old.history) log w past [] → IsReady sense old frames w.fixed → IsLogged log had.history → home old.history p ≡ None
-    → IsHad old had frames.rows cleared (me w) f → Readied sense o start old new log w past p had.history
-readied sense o start old new had frames log w past p f so ready logged absent (inl free) =
-    let R : List Entry → Type 0 = λ h. Readied sense o start old new log w past p h in
-    subst R (sym (ap (λ (s : State _). s.history) free.same)) (readied_none sense o start old new log w past p so)
-readied sense o start old new had frames log w past p f so ready logged absent (inr evicted) =
-    readied_evicted sense o start old new had frames log w past p f so ready logged absent evicted
+pub readied : {D : Type 0} {cleared : List Row} (seen : D → DiskSeen) (o : Opening) (start : Start) (old new had : State D) (frames : Plain) (log : Seen) (w : Working) (past : List Event) (p : PageId) (f : ℕ)
+    → SoFar seen o start (placed old new old.history) log w past [] → IsReady seen old frames w.fixed → IsLogged log had.history → home old.history p ≡ None
+    → IsHad old had frames.rows cleared (me w) f → Readied seen o start old new log w past p had.history
+readied seen o start old new had frames log w past p f so ready logged absent (inl free) =
+    let R : List Entry → Type 0 = λ h. Readied seen o start old new log w past p h in
+    subst R (sym (ap (λ (s : State _). s.history) free.same)) (readied_none seen o start old new log w past p so)
+readied seen o start old new had frames log w past p f so ready logged absent (inr evicted) =
+    readied_evicted seen o start old new had frames log w past p f so ready logged absent evicted
 
 -- what was logged before the frame was had
 pub logged_before : {D : Type 0} {rows cleared : List Row} (old had : State D) (log : Seen) (by : Rattle.desk.specs.declared.calls.Caller.Caller) (f : ℕ) → IsHad old had rows cleared by f → IsLogged log had.history → IsLogged log old.history

@@ -1,5 +1,8 @@
 pub mod Fixes
 pub mod Values
+pub mod Telling
+pub mod Handing
+pub mod Calling
 pub mod Growing
 pub mod Framing
 pub mod Exact

@@ -2,6 +2,7 @@
 use Rattle.std.proofs.Common.{◌≡◌, ℕ, Bool, true, false, cond, List, [], ◌∷◌, ◌++◌, ◌⊎◌, inl, inr, Option, Some, None, MatchOption, length, refl, ap, ◌∙◌, sym, subst, nat_eq, filter, reverse, append_assoc, eq-eqb}
 use Rattle.std.proofs.lemmas.List.{reverse-append}
 use Rattle.page_ids.specs.declared.ids.PageId.{PageId}
+use Rattle.page_disk.specs.Disks.{DiskSeen}
 use Rattle.trail.specs.declared.event.Call.{Call}
 use Rattle.trail.specs.declared.event.Call.TheVariants as call
 use Rattle.trail.specs.declared.event.Cause.TheVariants as cause
@@ -12,16 +13,16 @@ use Rattle.trail.specs.declared.event.Kind.{Kind}
 use Rattle.trail.specs.declared.event.Kind.TheVariants as kind
 use Rattle.trail.specs.declared.event.Event.{Event}
 use Rattle.trail.specs.declared.event.Event.TheVariants as event
-use Rattle.trail.specs.Opening.{Opening}
-use Rattle.trail.specs.Places.{entries}
-use Rattle.trail.specs.Calls.{held_by, held_after_kind, held_after_note, newest_of, is_answer, kind_answers, given_back}
+use Rattle.trail.specs.Trails.{Opening, caller_of, entries, own}
+use Rattle.trail.specs.Calls.{held_after, held_by, held_after_kind, newest_fix, is_answer, given_back, open_fixes}
+use Rattle.trail.specs.Kinds.{kind_answers}
 use Rattle.desk.specs.State.{State}
 use Rattle.script_text.specs.declared.script.Command.{Command}
 use Rattle.script_text.specs.declared.script.Command.TheVariants as command
 use Rattle.script_run.specs.Todo.{Answers, GoesOn, Todo, GivesBack, IsReceiptOf, IsEntryOf, IsRefusal}
 use Rattle.redo_mark.specs.Logs.{Seen}
 use Rattle.script_run.specs.Openings.{Start}
-use Rattle.script_run.specs.Work.{Senses, Working, SoFar, Does, Progress, Ending, Worked, with_note}
+use Rattle.script_run.specs.Work.{Working, SoFar, Does, Progress, Ending, Worked, with_note}
 use Rattle.script_run.proofs.Fixes.{same_self}
 use Rattle.script_run.proofs.Doing.{does_unfix}
 
@@ -30,15 +31,15 @@ answers_along : (h : List Entry) (k : ℕ) (c : Command) (past earlier : List Ev
 answers_along h k (command.Fix p now) past earlier e same a = a
 answers_along h k (command.Create p now) past earlier e same a = a
 answers_along h k (command.Read p at len) past earlier e same a =
-    let M : List Held → Type 0 = λ fixes. MatchOption (newest_of fixes p) (IsReceiptOf (note.Refused (call.Read p at len) cause.Unheld) e)
+    let M : List Held → Type 0 = λ fixes. MatchOption (newest_fix fixes p) (IsReceiptOf (note.Refused (call.Read p at len) cause.Unheld) e)
     (λ held. (bytes : List ℕ) × (clock : ℕ) × (length bytes ≡ len) × IsReceiptOf (note.Copied p at bytes clock) e) in
     subst M same a
 answers_along h k (command.Put p at bytes) past earlier e same a =
-    let M : List Held → Type 0 = λ fixes. MatchOption (newest_of fixes p) (IsReceiptOf (note.Refused (call.Put p at bytes) cause.Unheld) e)
+    let M : List Held → Type 0 = λ fixes. MatchOption (newest_fix fixes p) (IsReceiptOf (note.Refused (call.Put p at bytes) cause.Unheld) e)
     (λ held. ((from : ℕ) × (end : ℕ) × IsEntryOf (kind.Put p at bytes from end) e) ⊎ IsRefusal (call.Put p at bytes) e) in
     subst M same a
 answers_along h k (command.Unfix p) past earlier e same a =
-    let M : List Held → Type 0 = λ fixes. MatchOption (newest_of fixes p) (IsReceiptOf (note.Refused (call.Unfix p) cause.Unheld) e) (λ held. IsReceiptOf (note.Unfixed p held.frame held.number) e) in
+    let M : List Held → Type 0 = λ fixes. MatchOption (newest_fix fixes p) (IsReceiptOf (note.Refused (call.Unfix p) cause.Unheld) e) (λ held. IsReceiptOf (note.Unfixed p held.frame held.number) e) in
     subst M same a
 answers_along h k (command.Clean bound) past earlier e same a = a
 answers_along h k command.Checkpoint past earlier e same a = a
@@ -78,26 +79,30 @@ quiet_kind n (kind.Unwatch p) held silent = refl
 quiet_kind n (kind.Dump pct ids) held silent = refl
 quiet_kind n (kind.Refused asked why) held silent = refl
 
-either : {A : Type 0} (b : Bool) (x y : A) → x ≡ y → cond b x y ≡ y
-either true x y e = e
-either false x y e = refl
-
 no_answer : (b : Bool) (e : Event) (es : List Event) → cond b (e ∷ es) es ≡ [] → (b ≡ false) × (es ≡ [])
 no_answer true e es h = absurd (cc)
 no_answer false e es h = (refl, h)
+
+held_more : (b : Bool) (e : Event) (mine : List Event) → held_after e (open_fixes mine) ≡ open_fixes mine → open_fixes (cond b (e ∷ mine) mine) ≡ open_fixes mine
+held_more true e mine same = same
+held_more false e mine same = refl
 
 -- events that are no answers hold nothing
 held_quiet : (before past : List Event) (k : ℕ) → filter is_answer before ≡ [] → held_by (before ++ past) k ≡ held_by past k
 held_quiet [] past k quiet = refl
 held_quiet (event.Entry e ∷ before) past k quiet =
     let none = no_answer (kind_answers e.kind) (event.Entry e) (filter is_answer before) quiet in
-    either (nat_eq e.caller k) (held_after_kind e.number e.kind (held_by (before ++ past) k)) (held_by (before ++ past) k) (quiet_kind e.number e.kind (held_by (before ++ past) k) none.0) ∙ held_quiet before past k none.1
+    held_more (nat_eq e.caller k) (event.Entry e) (own k (before ++ past)) (quiet_kind e.number e.kind (held_by (before ++ past) k) none.0) ∙ held_quiet before past k none.1
 held_quiet (event.Receipt r ∷ before) past k quiet = absurd (cc)
+
+held_pick : (b : Bool) (e : Event) (mine : List Event) → open_fixes (cond b (e ∷ mine) mine) ≡ cond b (held_after e (open_fixes mine)) (open_fixes mine)
+held_pick true e mine = refl
+held_pick false e mine = refl
 
 -- an answer does the same to the fixes, whatever stood between
 held_along : (e : Event) (past earlier : List Event) (k : ℕ) → held_by past k ≡ held_by earlier k → held_by (e ∷ past) k ≡ held_by (e ∷ earlier) k
-held_along (event.Entry e) past earlier k same = ap (λ held. cond (nat_eq e.caller k) (held_after_kind e.number e.kind held) held) same
-held_along (event.Receipt r) past earlier k same = ap (λ held. cond (nat_eq r.caller k) (held_after_note r.number r.note held) held) same
+held_along e past earlier k same =
+    held_pick (nat_eq (caller_of e) k) e (own k past) ∙ ap (λ held. cond (nat_eq (caller_of e) k) (held_after e held) held) same ∙ sym (held_pick (nat_eq (caller_of e) k) e (own k earlier))
 
 refusal_answers : (e : Entry) (c : Call) → IsRefusal c (event.Entry e) → kind_answers e.kind ≡ true
 refusal_answers e c (why, is) = ap kind_answers is
@@ -120,9 +125,9 @@ answers_answer h k (command.Fix p now) past (event.Entry e) (inl granted) = ap k
 answers_answer h k (command.Fix p now) past (event.Entry e) (inr refused) = refusal_answers e (call.Fix p now) refused
 answers_answer h k (command.Create p now) past (event.Entry e) (inl granted) = ap kind_answers granted.3
 answers_answer h k (command.Create p now) past (event.Entry e) (inr refused) = refusal_answers e (call.Create p now) refused
-answers_answer h k (command.Read p at len) past (event.Entry e) a = no_receipt (newest_of (held_by past k) p) e _ _ (λ x. x) (λ h x. x.3) a
-answers_answer h k (command.Put p at bytes) past (event.Entry e) a = put_answers (newest_of (held_by past k) p) e p at bytes a
-answers_answer h k (command.Unfix p) past (event.Entry e) a = no_receipt (newest_of (held_by past k) p) e _ _ (λ x. x) (λ h x. x) a
+answers_answer h k (command.Read p at len) past (event.Entry e) a = no_receipt (newest_fix (held_by past k) p) e _ _ (λ x. x) (λ h x. x.3) a
+answers_answer h k (command.Put p at bytes) past (event.Entry e) a = put_answers (newest_fix (held_by past k) p) e p at bytes a
+answers_answer h k (command.Unfix p) past (event.Entry e) a = no_receipt (newest_fix (held_by past k) p) e _ _ (λ x. x) (λ h x. x) a
 answers_answer h k (command.Clean bound) past (event.Entry e) (inl cleaned) = ap kind_answers cleaned.1
 answers_answer h k (command.Clean bound) past (event.Entry e) (inr refused) = refusal_answers e (call.Clean bound) refused
 answers_answer h k command.Checkpoint past (event.Entry e) (lsn, is) = ap kind_answers is
@@ -149,16 +154,16 @@ pub append_nil : {A : Type 0} → (xs : List A) → xs ++ [] ≡ xs
 append_nil [] = refl
 append_nil (x ∷ xs) = ap (λ t. x ∷ t) (append_nil xs)
 
-pub progress_more : {D : Type 0} (sense : Senses D) (o : Opening) (start : Start) (desk new : State D) (was is : Seen) (w v : Working) (past : List Event) (commands : List Command) (c : Command) (rest : List Command)
-    → v.pass ≡ w.pass → (so : Progress sense o start desk was w past commands (c ∷ rest)) → Does sense o start new is v (so.more ++ past) c → Progress sense o start new is v past commands rest
-progress_more sense o start desk new was is w v past commands c rest pass so does =
+pub progress_more : {D : Type 0} (seen : D → DiskSeen) (o : Opening) (start : Start) (desk new : State D) (was is : Seen) (w v : Working) (past : List Event) (commands : List Command) (c : Command) (rest : List Command)
+    → v.pass ≡ w.pass → (so : Progress seen o start desk was w past commands (c ∷ rest)) → Does seen o start new is v (so.more ++ past) c → Progress seen o start new is v past commands rest
+progress_more seen o start desk new was is w v past commands c rest pass so does =
     let H : ℕ → Type 0 = λ k. held_by (so.more ++ past) k ≡ held_by (so.done ++ past) k in
     let held : held_by (so.more ++ past) v.pass ≡ held_by (so.done ++ past) v.pass = subst H (sym pass) so.held in
     let L : ℕ → Type 0 = λ k. (h : List Entry) (tail : List Event) → GoesOn (so.more ++ past) h → Todo h k (c ∷ rest) (so.done ++ past) tail → Todo h k commands past (reverse so.done ++ tail) in
     let left = subst L (sym pass) so.left in
     let now : List Event = does.answer ∷ (does.before ++ (so.more ++ past)) in
     let all : does.answer ∷ (does.before ++ (so.more ++ past)) ≡ does.answer ∷ ((does.before ++ so.more) ++ past) = ap (λ t. does.answer ∷ t) (sym (append_assoc does.before so.more past)) in
-    let S : List Event → Type 0 = λ p. SoFar sense o start new is v p [] in
+    let S : List Event → Type 0 = λ p. SoFar seen o start new is v p [] in
     record {
       more = does.answer ∷ does.before ++ so.more;
       done = does.answer ∷ so.done;
@@ -174,8 +179,8 @@ progress_more sense o start desk new was is w v past commands c rest pass so doe
           subst T (sym (around does.answer so.done tail)) (left h (does.answer ∷ tail) (goes_back_all (does.answer ∷ does.before) (so.more ++ past) h here) one);
     }
 
-pub ending_start : {D : Type 0} (sense : Senses D) (o : Opening) (start : Start) (desk : State D) (log : Seen) (w : Working) (past : List Event) (commands : List Command) → Progress sense o start desk log w past commands [] → Ending sense o start desk log w past commands
-ending_start sense o start desk log w past commands so = record {
+pub ending_start : {D : Type 0} (seen : D → DiskSeen) (o : Opening) (start : Start) (desk : State D) (log : Seen) (w : Working) (past : List Event) (commands : List Command) → Progress seen o start desk log w past commands [] → Ending seen o start desk log w past commands
+ending_start seen o start desk log w past commands so = record {
   more = so.more;
   done = so.done;
   so_far = so.so_far;
@@ -183,19 +188,19 @@ ending_start sense o start desk log w past commands so = record {
   left = λ h tail goes back. let G : List Held → Type 0 = λ held. GivesBack held tail in so.left h tail goes (subst G (sym so.so_far.held ∙ so.held) back);
 }
 
-pub ending_more : {D : Type 0} (sense : Senses D) (o : Opening) (start : Start) (desk : State D) (log : Seen) (w : Working) (past : List Event) (commands : List Command) (h : Held) (rest : List Held)
-    → w.fixed ≡ h ∷ rest → Ending sense o start desk log w past commands → Ending sense o start desk log (with_note desk w (note.Unfixed h.page h.frame h.number)) past commands
-ending_more sense o start desk log w past commands h rest first so =
+pub ending_more : {D : Type 0} (seen : D → DiskSeen) (o : Opening) (start : Start) (desk : State D) (log : Seen) (w : Working) (past : List Event) (commands : List Command) (h : Held) (rest : List Held)
+    → w.fixed ≡ h ∷ rest → Ending seen o start desk log w past commands → Ending seen o start desk log (with_note desk w (note.Unfixed h.page h.frame h.number)) past commands
+ending_more seen o start desk log w past commands h rest first so =
     let v : Working = with_note desk w (note.Unfixed h.page h.frame h.number) in
-    let newest : newest_of w.fixed h.page ≡ Some h = ap (λ held. newest_of held h.page) first ∙ ap (λ (b : Bool). cond b (Some h) (newest_of rest h.page)) (same_self h.page) in
-    let does : Does sense o start desk log v (so.more ++ past) (command.Unfix h.page) = does_unfix sense o start desk log w (so.more ++ past) h.page h so.so_far newest in
+    let newest : newest_fix w.fixed h.page ≡ Some h = ap (λ held. newest_fix held h.page) first ∙ ap (λ (b : Bool). cond b (Some h) (newest_fix rest h.page)) (same_self h.page) in
+    let does : Does seen o start desk log v (so.more ++ past) (command.Unfix h.page) = does_unfix seen o start desk log w (so.more ++ past) h.page h so.so_far newest in
     let left_over : v.fixed ≡ rest = ap (given_back h.number) first ∙ ap (λ (b : Bool). cond b rest (h ∷ given_back h.number rest)) (eq-eqb h.number h.number refl) in
-    let here : newest_of (held_by (so.more ++ past) w.pass) h.page ≡ Some h = ap (λ fixes. newest_of fixes h.page) so.so_far.held ∙ newest in
+    let here : newest_fix (held_by (so.more ++ past) w.pass) h.page ≡ Some h = ap (λ fixes. newest_fix fixes h.page) so.so_far.held ∙ newest in
     let M : Option Held → Type 0 = λ found. MatchOption found (IsReceiptOf (note.Refused (call.Unfix h.page) cause.Unheld) does.answer) (λ held. IsReceiptOf (note.Unfixed h.page held.frame held.number) does.answer) in
     let now : List Event = does.answer ∷ (does.before ++ (so.more ++ past)) in
     let answer : IsReceiptOf (note.Unfixed h.page h.frame h.number) does.answer = subst M here (does.answers (entries now) (goes_here now)) in
     let all : does.answer ∷ (does.before ++ (so.more ++ past)) ≡ does.answer ∷ ((does.before ++ so.more) ++ past) = ap (λ t. does.answer ∷ t) (sym (append_assoc does.before so.more past)) in
-    let S : List Event → Type 0 = λ p. SoFar sense o start desk log v p [] in
+    let S : List Event → Type 0 = λ p. SoFar seen o start desk log v p [] in
     record {
       more = does.answer ∷ does.before ++ so.more;
       done = does.answer ∷ so.done;
@@ -210,8 +215,8 @@ ending_more sense o start desk log w past commands h rest first so =
           subst T (sym (around does.answer so.done tail)) (so.left hist (does.answer ∷ tail) was (subst F (sym first) (answer, subst G left_over back)));
     }
 
-pub worked : {D : Type 0} (sense : Senses D) (o : Opening) (start : Start) (desk : State D) (log : Seen) (w : Working) (past : List Event) (commands : List Command) → w.fixed ≡ [] → Ending sense o start desk log w past commands → Worked sense o start desk log w past commands
-worked sense o start desk log w past commands none so =
+pub worked : {D : Type 0} (seen : D → DiskSeen) (o : Opening) (start : Start) (desk : State D) (log : Seen) (w : Working) (past : List Event) (commands : List Command) → w.fixed ≡ [] → Ending seen o start desk log w past commands → Worked seen o start desk log w past commands
+worked seen o start desk log w past commands none so =
     let G : List Held → Type 0 = λ held. GivesBack held [] in
     record {
       more = so.more;

@@ -5,7 +5,7 @@ use Rattle.std.specs.Int.{w16, w32, w64, to_be_bytes}
 use Rattle.page_ids.specs.Content.{Content}
 use Rattle.page_ids.specs.Layout.{IsPage}
 use Rattle.page_ids.specs.declared.ids.PageId.{PageId}
-use Rattle.page_disk.specs.Disks.{Fades}
+use Rattle.page_disk.specs.Disks.{DiskSeen, Fades}
 use Rattle.page_disk.specs.declared.shelf.FaultAt.{FaultAt}
 use Rattle.redo_mark.specs.Device.{Told, IsOpening}
 use Rattle.redo_mark.specs.Logs.{Seen, Holds, IsKept, IsAllKept, IsKeptAt}
@@ -17,20 +17,19 @@ use Rattle.trail.specs.declared.event.Event.{Event}
 use Rattle.trail.specs.declared.event.Event.TheVariants as event
 use Rattle.trail.specs.declared.event.Kind.{Kind}
 use Rattle.trail.specs.declared.event.Kind.TheVariants as kind
-use Rattle.trail.specs.Covered.{IsDurableKind, AreDurable}
+use Rattle.trail.specs.Saved.{AreDurable, is_written, saved}
 use Rattle.trail.specs.Dirt.{log_end, log_end_after}
 use Rattle.trail.specs.History.{value}
-use Rattle.trail.specs.Laws.{IsGood}
+use Rattle.trail.specs.Laws.{AreLawful}
 use Rattle.trail.specs.Legal.{IsLegalKind}
-use Rattle.trail.specs.Opening.{Opening}
-use Rattle.trail.specs.Places.{entries}
-use Rattle.trail.specs.Saved.{is_written, saved}
+use Rattle.trail.specs.Trails.{Opening, entries, own}
+use Rattle.trail.specs.Kinds.{write_in}
 use Rattle.frame_words.specs.Seen.{FramesSeen}
 use Rattle.desk.specs.Base.{Opened}
 use Rattle.desk.specs.Behind.{IsBehind}
-use Rattle.desk.specs.Logged.{IsLogged, IsLoggedKind, IsLoggedCause, put_change, create_change}
+use Rattle.desk.specs.Logged.{IsLogged, IsLoggedKind, put_change, create_change}
 use Rattle.desk.specs.State.{State}
-use Rattle.script_run.specs.Runs.{IsSavedPage, IsValuedPage, IsDiskOf, IsKeptKind, KeepsRecords, IsKeptBelow, KeepsRecordsBelow, EndsKind, EndsCause, EndsBehind, IsExtended}
+use Rattle.script_run.specs.Runs.{IsSavedPage, IsValuedPage, IsDiskOf, IsKeptKind, KeepsRecords, IsKeptBelow, KeepsRecordsBelow, IsExtended}
 
 -- the bytes of a put's record
 record_length : (p : PageId) (at : ℕ) (bytes : List ℕ) (from : ℕ) → length (record_of (put_change p at bytes) from) ≡ 21 + length bytes
@@ -51,61 +50,7 @@ created_length p from =
     let b : length head ≡ 13 = refl in
     omega (arith, a, b)
 
-cause_ends : (log : Seen) (why : Cause) → IsLoggedCause log why → EndsCause log.end why
-cause_ends log (cause.PlacesSpent mark need) logged = tt
-cause_ends log (cause.NoSuchPage pages) logged = tt
-cause_ends log (cause.HoldFull held) logged = tt
-cause_ends log (cause.Resident f) logged = tt
-cause_ends log (cause.AllFixed seen) logged = tt
-cause_ends log (cause.RedoFault before after) logged = tt
-cause_ends log (cause.DiskFault before after) logged = tt
-cause_ends log (cause.BadPage bad) logged = tt
-cause_ends log (cause.LogSpent at) logged = logged
-cause_ends log (cause.WatchFull watches) logged = tt
-cause_ends log cause.NoWatch logged = tt
-cause_ends log cause.TooSmall logged = tt
-cause_ends log (cause.TooLarge chunks max) logged = tt
-cause_ends log (cause.Withdrawing from) logged = tt
-cause_ends log (cause.Undone seen) logged = tt
-cause_ends log (cause.NoFrame frames) logged = tt
-cause_ends log (cause.Stale found) logged = tt
-cause_ends log (cause.OtherPage found) logged = tt
-cause_ends log (cause.Latched found) logged = tt
-cause_ends log (cause.Busy found) logged = tt
-cause_ends log cause.Unheld logged = tt
-
--- an entry names no end of the log behind the one that is known, nor did those before it
-kind_ends : (o : Opening) (past : List Event) (c : ℕ) (log : Seen) (k : Kind) → IsLegalKind o past c k → IsLoggedKind log k → log_end_after k (log_end (entries past)) ≤ log.end
-    → EndsKind log.end k × (log_end (entries past) ≤ log.end)
-kind_ends o past c log (kind.Load p f) legal logged le = (tt, le)
-kind_ends o past c log (kind.Fix p f clock now) legal logged le = (tt, le)
-kind_ends o past c log (kind.Create p f from to now) legal logged le = (le, omega (arith, legal.behind, legal.record_is, le))
-kind_ends o past c log (kind.Put p at bytes from to) legal logged le = (le, omega (arith, legal.behind, legal.record_is, le))
-kind_ends o past c log (kind.Evict p f passed) legal logged le = (tt, le)
-kind_ends o past c log (kind.Write p lsn upto) legal logged le = (tt, le)
-kind_ends o past c log (kind.Move p from to) legal logged le = (tt, le)
-kind_ends o past c log (kind.Withdraw from) legal logged le = (tt, le)
-kind_ends o past c log (kind.Undo from) legal logged le = (tt, le)
-kind_ends o past c log (kind.Shrink chunks) legal logged le = (tt, le)
-kind_ends o past c log (kind.Grow chunks) legal logged le = (tt, le)
-kind_ends o past c log (kind.Resize bytes chunks) legal logged le = (tt, le)
-kind_ends o past c log (kind.Clean written skipped) legal logged le = (tt, le)
-kind_ends o past c log (kind.Check lsn) legal logged le = (logged, le)
-kind_ends o past c log (kind.WatchSet p) legal logged le = (tt, le)
-kind_ends o past c log (kind.WatchAt p f) legal logged le = (tt, le)
-kind_ends o past c log (kind.Occurred p arrived) legal logged le = (tt, le)
-kind_ends o past c log (kind.Unwatch p) legal logged le = (tt, le)
-kind_ends o past c log (kind.Dump pct ids) legal logged le = (tt, le)
-kind_ends o past c log (kind.Refused asked why) legal logged le = (cause_ends log why logged, le)
-
-pub ends_behind : (o : Opening) (past : List Event) (log : Seen) → IsGood o past → IsLogged log (entries past) → log_end (entries past) ≤ log.end → EndsBehind log.end (entries past)
-ends_behind o [] log good logged le = tt
-ends_behind o (event.Entry e ∷ past) log good logged le =
-    let here = kind_ends o past e.caller log e.kind good.0.legal.kind logged.0 le in
-    (here.0, ends_behind o past log good.1 logged.1 here.1)
-ends_behind o (event.Receipt r ∷ past) log good logged le = ends_behind o past log good.1 logged le
-
-kind_durable : (log : Seen) (k : Kind) → IsLoggedKind log k → IsDurableKind log.durable k
+kind_durable : (log : Seen) (k : Kind) → IsLoggedKind log k → IfSome (write_in k) (λ w. w.upto ≤ log.durable)
 kind_durable log (kind.Load p f) logged = tt
 kind_durable log (kind.Fix p f clock now) logged = tt
 kind_durable log (kind.Create p f from to now) logged = tt
@@ -135,66 +80,66 @@ are_durable log (e ∷ h) logged = (kind_durable log e.kind logged.0, are_durabl
 abbrev pub Records : Seen → Option Told → ℕ → Type 0
 Records log told durable = (piece : List ℕ) (start : ℕ) → Holds log piece start → start + length piece ≤ durable → IsKeptAt log.first piece start told
 
-kind_kept : (o : Opening) (past : List Event) (c : ℕ) (log : Seen) (told : Option Told) (durable : ℕ) (k : Kind) → Records log told durable → IsLegalKind o past c k → IsLoggedKind log k
-    → log_end_after k (log_end (entries past)) ≤ durable → IsKeptKind log.first told k × (log_end (entries past) ≤ durable)
-kind_kept o past c log told durable (kind.Load p f) records legal logged le = (tt, le)
-kind_kept o past c log told durable (kind.Fix p f clock now) records legal logged le = (tt, le)
-kind_kept o past c log told durable (kind.Create p f from to now) records legal logged le = (records (record_of (create_change p) from) from logged (omega (arith, created_length p from, legal.record_is, le)), omega (arith, legal.behind, legal.record_is, le))
-kind_kept o past c log told durable (kind.Put p at bytes from to) records legal logged le = (records (record_of (put_change p at bytes) from) from logged (omega (arith, record_length p at bytes from, legal.record_is, le)), omega (arith, legal.behind, legal.record_is, le))
-kind_kept o past c log told durable (kind.Evict p f passed) records legal logged le = (tt, le)
-kind_kept o past c log told durable (kind.Write p lsn upto) records legal logged le = (tt, le)
-kind_kept o past c log told durable (kind.Move p from to) records legal logged le = (tt, le)
-kind_kept o past c log told durable (kind.Withdraw from) records legal logged le = (tt, le)
-kind_kept o past c log told durable (kind.Undo from) records legal logged le = (tt, le)
-kind_kept o past c log told durable (kind.Shrink chunks) records legal logged le = (tt, le)
-kind_kept o past c log told durable (kind.Grow chunks) records legal logged le = (tt, le)
-kind_kept o past c log told durable (kind.Resize bytes chunks) records legal logged le = (tt, le)
-kind_kept o past c log told durable (kind.Clean written skipped) records legal logged le = (tt, le)
-kind_kept o past c log told durable (kind.Check lsn) records legal logged le = (tt, le)
-kind_kept o past c log told durable (kind.WatchSet p) records legal logged le = (tt, le)
-kind_kept o past c log told durable (kind.WatchAt p f) records legal logged le = (tt, le)
-kind_kept o past c log told durable (kind.Occurred p arrived) records legal logged le = (tt, le)
-kind_kept o past c log told durable (kind.Unwatch p) records legal logged le = (tt, le)
-kind_kept o past c log told durable (kind.Dump pct ids) records legal logged le = (tt, le)
-kind_kept o past c log told durable (kind.Refused asked why) records legal logged le = (tt, le)
+kind_kept : (o : Opening) (h : List Entry) (mine : List Event) (c n : ℕ) (log : Seen) (told : Option Told) (durable : ℕ) (k : Kind) → Records log told durable → IsLegalKind o h mine c n k → IsLoggedKind log k
+    → log_end_after k (log_end h) ≤ durable → IsKeptKind log.first told k × (log_end h ≤ durable)
+kind_kept o h mine c n log told durable (kind.Load p f) records legal logged le = (tt, le)
+kind_kept o h mine c n log told durable (kind.Fix p f clock now) records legal logged le = (tt, le)
+kind_kept o h mine c n log told durable (kind.Create p f from to now) records legal logged le = (records (record_of (create_change p) from) from logged (omega (arith, created_length p from, legal.record_is, le)), omega (arith, legal.behind, legal.record_is, le))
+kind_kept o h mine c n log told durable (kind.Put p at bytes from to) records legal logged le = (records (record_of (put_change p at bytes) from) from logged (omega (arith, record_length p at bytes from, legal.record_is, le)), omega (arith, legal.behind, legal.record_is, le))
+kind_kept o h mine c n log told durable (kind.Evict p f passed) records legal logged le = (tt, le)
+kind_kept o h mine c n log told durable (kind.Write p lsn upto) records legal logged le = (tt, le)
+kind_kept o h mine c n log told durable (kind.Move p from to) records legal logged le = (tt, le)
+kind_kept o h mine c n log told durable (kind.Withdraw from) records legal logged le = (tt, le)
+kind_kept o h mine c n log told durable (kind.Undo from) records legal logged le = (tt, le)
+kind_kept o h mine c n log told durable (kind.Shrink chunks) records legal logged le = (tt, le)
+kind_kept o h mine c n log told durable (kind.Grow chunks) records legal logged le = (tt, le)
+kind_kept o h mine c n log told durable (kind.Resize bytes chunks) records legal logged le = (tt, le)
+kind_kept o h mine c n log told durable (kind.Clean written skipped) records legal logged le = (tt, le)
+kind_kept o h mine c n log told durable (kind.Check lsn) records legal logged le = (tt, le)
+kind_kept o h mine c n log told durable (kind.WatchSet p) records legal logged le = (tt, le)
+kind_kept o h mine c n log told durable (kind.WatchAt p f) records legal logged le = (tt, le)
+kind_kept o h mine c n log told durable (kind.Occurred p arrived) records legal logged le = (tt, le)
+kind_kept o h mine c n log told durable (kind.Unwatch p) records legal logged le = (tt, le)
+kind_kept o h mine c n log told durable (kind.Dump pct ids) records legal logged le = (tt, le)
+kind_kept o h mine c n log told durable (kind.Refused asked why) records legal logged le = (tt, le)
 
-pub are_kept : (o : Opening) (past : List Event) (log : Seen) (told : Option Told) (durable : ℕ) → Records log told durable → IsGood o past → IsLogged log (entries past) → log_end (entries past) ≤ durable
+pub are_kept : (o : Opening) (past : List Event) (log : Seen) (told : Option Told) (durable : ℕ) → Records log told durable → AreLawful o past → IsLogged log (entries past) → log_end (entries past) ≤ durable
     → KeepsRecords log.first told (entries past)
 are_kept o [] log told durable records good logged le = tt
 are_kept o (event.Entry e ∷ past) log told durable records good logged le =
-    let here = kind_kept o past e.caller log told durable e.kind records good.0.legal.kind logged.0 le in
+    let here = kind_kept o (entries past) (own e.caller past) e.caller e.number log told durable e.kind records good.0.legal.kind logged.0 le in
     (here.0, are_kept o past log told durable records good.1 logged.1 here.1)
 are_kept o (event.Receipt r ∷ past) log told durable records good logged le = are_kept o past log told durable records good.1 logged le
 
-kind_kept_below : (o : Opening) (past : List Event) (c : ℕ) (log : Seen) (told : Option Told) (durable : ℕ) (k : Kind) → Records log told durable → IsLegalKind o past c k → IsLoggedKind log k
+kind_kept_below : (o : Opening) (h : List Entry) (mine : List Event) (c n : ℕ) (log : Seen) (told : Option Told) (durable : ℕ) (k : Kind) → Records log told durable → IsLegalKind o h mine c n k → IsLoggedKind log k
     → IsKeptBelow log.first durable told k
-kind_kept_below o past c log told durable (kind.Load p f) records legal logged = tt
-kind_kept_below o past c log told durable (kind.Fix p f clock now) records legal logged = tt
-kind_kept_below o past c log told durable (kind.Create p f from to now) records legal logged = λ le. records (record_of (create_change p) from) from logged (omega (arith, created_length p from, legal.record_is, le))
-kind_kept_below o past c log told durable (kind.Put p at bytes from to) records legal logged = λ le. records (record_of (put_change p at bytes) from) from logged (omega (arith, record_length p at bytes from, legal.record_is, le))
-kind_kept_below o past c log told durable (kind.Evict p f passed) records legal logged = tt
-kind_kept_below o past c log told durable (kind.Write p lsn upto) records legal logged = tt
-kind_kept_below o past c log told durable (kind.Move p from to) records legal logged = tt
-kind_kept_below o past c log told durable (kind.Withdraw from) records legal logged = tt
-kind_kept_below o past c log told durable (kind.Undo from) records legal logged = tt
-kind_kept_below o past c log told durable (kind.Shrink chunks) records legal logged = tt
-kind_kept_below o past c log told durable (kind.Grow chunks) records legal logged = tt
-kind_kept_below o past c log told durable (kind.Resize bytes chunks) records legal logged = tt
-kind_kept_below o past c log told durable (kind.Clean written skipped) records legal logged = tt
-kind_kept_below o past c log told durable (kind.Check lsn) records legal logged = tt
-kind_kept_below o past c log told durable (kind.WatchSet p) records legal logged = tt
-kind_kept_below o past c log told durable (kind.WatchAt p f) records legal logged = tt
-kind_kept_below o past c log told durable (kind.Occurred p arrived) records legal logged = tt
-kind_kept_below o past c log told durable (kind.Unwatch p) records legal logged = tt
-kind_kept_below o past c log told durable (kind.Dump pct ids) records legal logged = tt
-kind_kept_below o past c log told durable (kind.Refused asked why) records legal logged = tt
+kind_kept_below o h mine c n log told durable (kind.Load p f) records legal logged = tt
+kind_kept_below o h mine c n log told durable (kind.Fix p f clock now) records legal logged = tt
+kind_kept_below o h mine c n log told durable (kind.Create p f from to now) records legal logged = λ le. records (record_of (create_change p) from) from logged (omega (arith, created_length p from, legal.record_is, le))
+kind_kept_below o h mine c n log told durable (kind.Put p at bytes from to) records legal logged = λ le. records (record_of (put_change p at bytes) from) from logged (omega (arith, record_length p at bytes from, legal.record_is, le))
+kind_kept_below o h mine c n log told durable (kind.Evict p f passed) records legal logged = tt
+kind_kept_below o h mine c n log told durable (kind.Write p lsn upto) records legal logged = tt
+kind_kept_below o h mine c n log told durable (kind.Move p from to) records legal logged = tt
+kind_kept_below o h mine c n log told durable (kind.Withdraw from) records legal logged = tt
+kind_kept_below o h mine c n log told durable (kind.Undo from) records legal logged = tt
+kind_kept_below o h mine c n log told durable (kind.Shrink chunks) records legal logged = tt
+kind_kept_below o h mine c n log told durable (kind.Grow chunks) records legal logged = tt
+kind_kept_below o h mine c n log told durable (kind.Resize bytes chunks) records legal logged = tt
+kind_kept_below o h mine c n log told durable (kind.Clean written skipped) records legal logged = tt
+kind_kept_below o h mine c n log told durable (kind.Check lsn) records legal logged = tt
+kind_kept_below o h mine c n log told durable (kind.WatchSet p) records legal logged = tt
+kind_kept_below o h mine c n log told durable (kind.WatchAt p f) records legal logged = tt
+kind_kept_below o h mine c n log told durable (kind.Occurred p arrived) records legal logged = tt
+kind_kept_below o h mine c n log told durable (kind.Unwatch p) records legal logged = tt
+kind_kept_below o h mine c n log told durable (kind.Dump pct ids) records legal logged = tt
+kind_kept_below o h mine c n log told durable (kind.Refused asked why) records legal logged = tt
 
 -- whether or not the closing flush failed
-pub are_kept_below : (o : Opening) (past : List Event) (log : Seen) (told : Option Told) (durable : ℕ) → Records log told durable → IsGood o past → IsLogged log (entries past)
+pub are_kept_below : (o : Opening) (past : List Event) (log : Seen) (told : Option Told) (durable : ℕ) → Records log told durable → AreLawful o past → IsLogged log (entries past)
     → KeepsRecordsBelow log.first durable told (entries past)
 are_kept_below o [] log told durable records good logged = tt
 are_kept_below o (event.Entry e ∷ past) log told durable records good logged =
-    (kind_kept_below o past e.caller log told durable e.kind records good.0.legal.kind logged.0, are_kept_below o past log told durable records good.1 logged.1)
+    (kind_kept_below o (entries past) (own e.caller past) e.caller e.number log told durable e.kind records good.0.legal.kind logged.0, are_kept_below o past log told durable records good.1 logged.1)
 are_kept_below o (event.Receipt r ∷ past) log told durable records good logged = are_kept_below o past log told durable records good.1 logged
 
 -- nothing but the log's bytes came behind what the log kept at its opening
@@ -236,12 +181,12 @@ valued_page was (Some bytes) None p at = at
 valued_page was (Some bytes) (Some c) p at = at
 
 -- what stands behind a desk is what its disk holds behind the trail
-pub disk_of : {D : Type 0} (tells : D → Bool) (told : D → PageId → Option (List ℕ)) (spaces : D → ℕ → Option ℕ) (o : Opened) (desk : State D) (frames : FramesSeen) (fault : Option FaultAt)
-    → IsBehind tells told spaces o desk frames
-    → (fault ≡ None → (p : PageId) → p.page < o.pages p.space → IfSome (told desk.disk p) (λ bytes. MatchOption (value o.size o.base desk.history p) (o.told p ≡ Some bytes) (λ c. IsPage p bytes c)))
-    → IsDiskOf o.size o.base o.pages o.told (told desk.disk) fault desk.history
-disk_of tells told spaces o desk frames fault behind rests = record {
-  saved = λ p inside. saved_page (is_written desk.history p) (o.told p) (told desk.disk p) (saved o.size o.base desk.history p) p (behind.written p) (behind.unwritten p);
+pub disk_of : {D : Type 0} (seen : D → DiskSeen) (o : Opened) (desk : State D) (frames : FramesSeen) (fault : Option FaultAt)
+    → IsBehind seen o desk frames
+    → (fault ≡ None → (p : PageId) → p.page < o.pages p.space → IfSome ((seen desk.disk).told p) (λ bytes. MatchOption (value o.size o.base desk.history p) (o.told p ≡ Some bytes) (λ c. IsPage p bytes c)))
+    → IsDiskOf o.size o.base o.pages o.told (seen desk.disk).told fault desk.history
+disk_of seen o desk frames fault behind rests = record {
+  saved = λ p inside. saved_page (is_written desk.history p) (o.told p) ((seen desk.disk).told p) (saved o.size o.base desk.history p) p (behind.written p) (behind.unwritten p);
   told = λ p inside clean there. behind.clean p clean there;
-  whole = λ fine p inside. valued_page (o.told p) (told desk.disk p) (value o.size o.base desk.history p) p (rests fine p inside);
+  whole = λ fine p inside. valued_page (o.told p) ((seen desk.disk).told p) (value o.size o.base desk.history p) p (rests fine p inside);
 }

@@ -4,19 +4,20 @@ use Rattle.page_ids.specs.Same.{same_page}
 use Rattle.page_ids.specs.declared.config.Config.{Config}
 use Rattle.page_ids.specs.declared.frame_word.Word.{Word}
 use Rattle.page_ids.specs.declared.ids.PageId.{PageId}
+use Rattle.page_disk.specs.Disks.{DiskSeen}
 use Rattle.trail.specs.declared.event.Entry.{Entry}
 use Rattle.trail.specs.declared.event.Held.{Held}
 use Rattle.trail.specs.declared.event.Kind.{Kind}
 use Rattle.trail.specs.declared.event.Kind.TheVariants as kind
 use Rattle.trail.specs.History.{home}
-use Rattle.trail.specs.Calls.{newest_of}
+use Rattle.trail.specs.Calls.{newest_fix}
 use Rattle.frame_words.specs.Plain.{Plain}
 use Rattle.frame_words.specs.Rows.{Row, claimed_row}
 use Rattle.desk.specs.Ledger.{IsVacant, entry_behind}
 use Rattle.desk.specs.State.{State}
 use Rattle.desk.specs.Steps.{row_in}
 use Rattle.desk.specs.Victims.{IsHad, IsEvicted, IsCleanedFirst}
-use Rattle.script_run.specs.Work.{Senses, Working, AreHoused, AreHeld, AreInChunk, AreApart, IsReady}
+use Rattle.script_run.specs.Work.{Working, AreHoused, AreHeld, AreInChunk, AreApart, IsReady}
 use Rattle.script_run.proofs.Fixes.{one_page, same_self}
 use Rattle.script_run.proofs.Framing.{held_kept}
 use Rattle.script_run.proofs.Growing.{me}
@@ -33,8 +34,8 @@ pub record Stays (config : Config) (h : List Entry) (rows : List Row) (fixed : L
   pub housed : AreHoused h fixed
   pub held : AreHeld rows fixed
 
-pub stays_ready : {D : Type 0} (sense : Senses D) (desk : State D) (frames : Plain) (fixed : List Held) → IsReady sense desk frames fixed → Stays desk.config desk.history frames.rows fixed
-stays_ready sense desk frames fixed ready = record { homes = ready.homes; apart = ready.apart; housed = ready.housed; held = ready.held }
+pub stays_ready : {D : Type 0} (seen : D → DiskSeen) (desk : State D) (frames : Plain) (fixed : List Held) → IsReady seen desk frames fixed → Stays desk.config desk.history frames.rows fixed
+stays_ready seen desk frames fixed ready = record { homes = ready.homes; apart = ready.apart; housed = ready.housed; held = ready.held }
 
 pub stays_rows : (config : Config) (h : List Entry) (rows more : List Row) (fixed : List Held) → AreHeld more fixed → Stays config h rows fixed → Stays config h more fixed
 stays_rows config h rows more fixed held was = record { homes = was.homes; apart = was.apart; housed = was.housed; held = held }
@@ -89,24 +90,24 @@ gone_test : (b : Bool) (found : Option ℕ) (g : ℕ) → cond b None found ≡ 
 gone_test true found g here = absurd (cc)
 gone_test false found g here = here
 
-not_held : (q : PageId) (x : Held) (held : List Held) (b : Bool) → same_page q x.page ≡ b → cond (same_page x.page q) (Some x) (newest_of held q) ≡ None → (b ≡ false) × (newest_of held q ≡ None)
+not_held : (q : PageId) (x : Held) (held : List Held) (b : Bool) → same_page q x.page ≡ b → cond (same_page x.page q) (Some x) (newest_fix held q) ≡ None → (b ≡ false) × (newest_fix held q ≡ None)
 not_held q x held true test none =
     let same : same_page x.page q ≡ true = ap (λ p. same_page p q) (sym (one_page q x.page test)) ∙ same_self q in
-    let bad : Some x ≡ None = sym (ap (λ (b : Bool). cond b (Some x) (newest_of held q)) same) ∙ none in absurd (cc)
+    let bad : Some x ≡ None = sym (ap (λ (b : Bool). cond b (Some x) (newest_fix held q)) same) ∙ none in absurd (cc)
 not_held q x held false test none = (refl, rest (same_page x.page q) none)
   where
-    rest : (b : Bool) → cond b (Some x) (newest_of held q) ≡ None → newest_of held q ≡ None
+    rest : (b : Bool) → cond b (Some x) (newest_fix held q) ≡ None → newest_fix held q ≡ None
     rest true e = absurd (cc)
     rest false e = e
 
-housed_evict : (h : List Entry) (place caller number : ℕ) (q : PageId) (f : ℕ) (passed : List (ℕ × Word)) (held : List Held) → newest_of held q ≡ None → AreHoused h held
+housed_evict : (h : List Entry) (place caller number : ℕ) (q : PageId) (f : ℕ) (passed : List (ℕ × Word)) (held : List Held) → newest_fix held q ≡ None → AreHoused h held
     → AreHoused (entry_of place caller number (kind.Evict q f passed) ∷ h) held
 housed_evict h place caller number q f passed [] none was = tt
 housed_evict h place caller number q f passed (x ∷ held) none was =
     let apart = not_held q x held (same_page q x.page) refl none in
     (ap (λ (b : Bool). cond b None (home h x.page)) apart.0 ∙ was.0, housed_evict h place caller number q f passed held apart.1 was.1)
 
-pub stays_evict : (config : Config) (h : List Entry) (place caller number : ℕ) (q : PageId) (f : ℕ) (passed : List (ℕ × Word)) (rows : List Row) (fixed : List Held) → newest_of fixed q ≡ None
+pub stays_evict : (config : Config) (h : List Entry) (place caller number : ℕ) (q : PageId) (f : ℕ) (passed : List (ℕ × Word)) (rows : List Row) (fixed : List Held) → newest_fix fixed q ≡ None
     → Stays config h rows fixed → Stays config (entry_of place caller number (kind.Evict q f passed) ∷ h) rows fixed
 stays_evict config h place caller number q f passed rows fixed none was = record {
   homes = λ p g here. was.homes p g (gone_test (same_page q p) (home h p) g here);
@@ -122,21 +123,21 @@ stays_cleaned old w q mid rows (inr back) was =
     let x : Entry = entry_behind old.config.first old.history (me w) (kind.Write q back.dirt.newest back.upto) in
     stays_at old.config old.config (x ∷ old.history) mid rows w.fixed refl back.entry (stays_quiet old.config old.history x rows w.fixed (write_leaves q back.dirt.newest back.upto) was)
 
-stays_evicted : {D : Type 0} {cleared : List Row} (sense : Senses D) (old had : State D) (frames : Plain) (w : Working) (f : ℕ) → IsReady sense old frames w.fixed → IsEvicted old had frames.rows cleared (me w) f
+stays_evicted : {D : Type 0} {cleared : List Row} (seen : D → DiskSeen) (old had : State D) (frames : Plain) (w : Working) (f : ℕ) → IsReady seen old frames w.fixed → IsEvicted old had frames.rows cleared (me w) f
     → Stays had.config had.history cleared w.fixed
-stays_evicted {D} {cleared} sense old had frames w f ready evicted =
+stays_evicted {D} {cleared} seen old had frames w f ready evicted =
     let x : Entry = entry_behind old.config.first evicted.mid (me w) (kind.Evict evicted.page f evicted.passed) in
     let R : List Row → Type 0 = λ rows. AreHeld rows w.fixed in
     let held : AreHeld cleared w.fixed = subst R (sym evicted.rows_are) (held_kept frames.rows w.fixed f (claimed_row (row_in frames.rows f) evicted.image) refl ready.held) in
     stays_at old.config had.config (x ∷ evicted.mid) had.history cleared w.fixed evicted.config evicted.history
-    (stays_evict old.config evicted.mid x.place x.caller x.number evicted.page f evicted.passed cleared w.fixed (victim_free sense old had frames w f ready evicted)
-    (stays_cleaned old w evicted.page evicted.mid cleared evicted.cleaned (stays_rows old.config old.history frames.rows cleared w.fixed held (stays_ready sense old frames w.fixed ready))))
+    (stays_evict old.config evicted.mid x.place x.caller x.number evicted.page f evicted.passed cleared w.fixed (victim_free seen old had frames w f ready evicted)
+    (stays_cleaned old w evicted.page evicted.mid cleared evicted.cleaned (stays_rows old.config old.history frames.rows cleared w.fixed held (stays_ready seen old frames w.fixed ready))))
 
 -- a frame is had
-pub stays_had : {D : Type 0} {cleared : List Row} (sense : Senses D) (old had : State D) (frames : Plain) (w : Working) (f : ℕ) → IsReady sense old frames w.fixed → IsHad old had frames.rows cleared (me w) f
+pub stays_had : {D : Type 0} {cleared : List Row} (seen : D → DiskSeen) (old had : State D) (frames : Plain) (w : Working) (f : ℕ) → IsReady seen old frames w.fixed → IsHad old had frames.rows cleared (me w) f
     → Stays had.config had.history cleared w.fixed
-stays_had sense old had frames w f ready (inl free) =
+stays_had seen old had frames w f ready (inl free) =
     let R : List Row → Type 0 = λ rows. AreHeld rows w.fixed in
     stays_at old.config had.config old.history had.history _ w.fixed (ap (λ (s : State _). s.config) free.same) (ap (λ (s : State _). s.history) free.same)
-    (stays_rows old.config old.history frames.rows _ w.fixed (subst R (sym free.rows_are) ready.held) (stays_ready sense old frames w.fixed ready))
-stays_had sense old had frames w f ready (inr evicted) = stays_evicted sense old had frames w f ready evicted
+    (stays_rows old.config old.history frames.rows _ w.fixed (subst R (sym free.rows_are) ready.held) (stays_ready seen old frames w.fixed ready))
+stays_had seen old had frames w f ready (inr evicted) = stays_evicted seen old had frames w f ready evicted

@@ -45,7 +45,7 @@ cause_wider less start disk log more_disk more_log (cause.PlacesSpent mark need)
 cause_wider less start disk log more_disk more_log (cause.NoSuchPage pages) e d l w = tt
 cause_wider less start disk log more_disk more_log (cause.HoldFull held) e d l w = tt
 cause_wider less start disk log more_disk more_log (cause.Resident f) e d l w = tt
-cause_wider less start disk log more_disk more_log (cause.AllFixed seen) e d l w = tt
+cause_wider less start disk log more_disk more_log (cause.AllFixed words) e d l w = tt
 cause_wider less start disk log more_disk more_log (cause.BadPage bad) e d l w = tt
 cause_wider less start disk log more_disk more_log (cause.LogSpent end) e d l w = tt
 cause_wider less start disk log more_disk more_log (cause.WatchFull watches) e d l w = tt

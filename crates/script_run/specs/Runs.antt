@@ -6,7 +6,7 @@ use Rattle.page_ids.specs.Faults.{Rose}
 use Rattle.page_ids.specs.Layout.{IsPage}
 use Rattle.page_ids.specs.Size.{page_bytes}
 use Rattle.page_ids.specs.declared.ids.PageId.{PageId}
-use Rattle.page_disk.specs.Disks.{pages_in}
+use Rattle.page_disk.specs.Disks.{DiskSeen, pages_in}
 use Rattle.page_disk.specs.Shelves.{Asked}
 use Rattle.page_disk.specs.declared.shelf.FaultAt.{FaultAt}
 use Rattle.trail.specs.declared.event.Call.TheVariants as call
@@ -19,14 +19,11 @@ use Rattle.trail.specs.declared.event.Note.TheVariants as note
 use Rattle.trail.specs.declared.event.Entry.{Entry}
 use Rattle.trail.specs.declared.event.Event.{Event}
 use Rattle.trail.specs.declared.event.Event.TheVariants as event
-use Rattle.trail.specs.Events.{Events}
-use Rattle.trail.specs.Places.{entries}
+use Rattle.trail.specs.Trails.{Events, entries, caller_of, Opening}
 use Rattle.trail.specs.History.{value}
-use Rattle.trail.specs.Dirt.{dirty, is_dirty}
-use Rattle.trail.specs.Covered.{AreDurable}
-use Rattle.trail.specs.Saved.{is_written, saved}
-use Rattle.trail.specs.Calls.{caller_of}
-use Rattle.trail.specs.Opening.{Opening}
+use Rattle.trail.specs.Dirt.{dirty, is_dirty, spent_end}
+use Rattle.trail.specs.Kinds.{change_in}
+use Rattle.trail.specs.Saved.{AreDurable, is_written, saved}
 use Rattle.trail.specs.Laws.{IsLawfulTrail}
 use Rattle.trail.specs.Promises.{ArePromised}
 use Rattle.trail.specs.Spelling.{trail_text}
@@ -45,7 +42,6 @@ use Rattle.script_text.specs.Verdict.{IsScript}
 use Rattle.script_text.specs.declared.script.Command.{Command}
 use Rattle.script_run.specs.Todo.{Todo, answers_of, IsEntryOf}
 use Rattle.script_run.specs.Openings.{Start, opening_of, AreFaultsWithin}
-use Rattle.script_run.specs.Work.{Senses}
 
 -- the events are of thread 1 and of the runner, caller 0
 abbrev pub AreOfOneThread : List Event → Type 0
@@ -67,9 +63,9 @@ closing_of (Some f) written = kind.Refused (call.Clean 16384) (cause_at f)
 
 -- One lawful history of the plain page map, in which thread 1 does what its commands say, each call once and in order, and the runner's one call comes last.
 -- Without a fault that call leaves no page dirty.
-pub record IsRunOf (o : Opening) (commands : List Command) (fault : Option FaultAt) (trail : Events) : Type 0 where
+pub record IsRunOf (o : Opening) (pages : ℕ → ℕ) (commands : List Command) (fault : Option FaultAt) (trail : Events) : Type 0 where
   pub lawful : IsLawfulTrail o trail
-  pub promised : ArePromised o (reverse trail.events)
+  pub promised : ArePromised o pages (reverse trail.events)
   pub todo : Todo (entries (reverse trail.events)) 1 commands [] (answers_of 1 trail.events)
   pub close : Event
   pub written : ℕ
@@ -90,8 +86,8 @@ pub record Handed : Type 0 where
 abbrev pub handed : (PageId → Option (List ℕ)) → Option (ℕ → Option ℕ) → Option ℕ → Option Told → Option ℕ → Handed
 handed told spaces disk_faults log log_faults = record { told = told; spaces = spaces; disk_faults = disk_faults; log = log; log_faults = log_faults }
 
-abbrev pub start_of : Handed → Start
-start_of shelf = record { told = shelf.told; disk_faults = unwrap_or shelf.disk_faults 0; log_faults = unwrap_or shelf.log_faults 0 }
+abbrev pub start_of : Handed → (ℕ → ℕ) → Start
+start_of shelf pages = record { told = shelf.told; pages = pages; disk_faults = unwrap_or shelf.disk_faults 0; log_faults = unwrap_or shelf.log_faults 0 }
 
 -- what a log's device is to a run: what it tells, its length at its opening, and its count of faults
 pub record Reports (R : Type 0) : Type 0 where
@@ -121,26 +117,9 @@ pub record IsDiskOf (size : ℕ) (base : PageId → Option Content) (pages : ℕ
 
 -- the log keeps the record of a change at its start LSN; the log file's first byte has this LSN
 abbrev pub IsKeptKind : ℕ → Option Told → Kind → Type 0
-IsKeptKind lsn told (kind.Load p f) = ⊤
-IsKeptKind lsn told (kind.Fix p f clock now) = ⊤
 IsKeptKind lsn told (kind.Create p f start end now) = IsKeptAt lsn (record_of (create_change p) start) start told
 IsKeptKind lsn told (kind.Put p at bytes start end) = IsKeptAt lsn (record_of (put_change p at bytes) start) start told
-IsKeptKind lsn told (kind.Evict p f passed) = ⊤
-IsKeptKind lsn told (kind.Write p newest upto) = ⊤
-IsKeptKind lsn told (kind.Move p from to) = ⊤
-IsKeptKind lsn told (kind.Withdraw from) = ⊤
-IsKeptKind lsn told (kind.Undo from) = ⊤
-IsKeptKind lsn told (kind.Shrink chunks) = ⊤
-IsKeptKind lsn told (kind.Grow chunks) = ⊤
-IsKeptKind lsn told (kind.Resize bytes chunks) = ⊤
-IsKeptKind lsn told (kind.Clean written skipped) = ⊤
-IsKeptKind lsn told (kind.Check at) = ⊤
-IsKeptKind lsn told (kind.WatchSet p) = ⊤
-IsKeptKind lsn told (kind.WatchAt p f) = ⊤
-IsKeptKind lsn told (kind.Occurred p arrived) = ⊤
-IsKeptKind lsn told (kind.Unwatch p) = ⊤
-IsKeptKind lsn told (kind.Dump pct ids) = ⊤
-IsKeptKind lsn told (kind.Refused asked why) = ⊤
+IsKeptKind lsn told _ = ⊤
 
 abbrev pub KeepsRecords : ℕ → Option Told → List Entry → Type 0
 KeepsRecords lsn told [] = ⊤
@@ -148,26 +127,7 @@ KeepsRecords lsn told (e ∷ h) = IsKeptKind lsn told e.kind × KeepsRecords lsn
 
 -- and so where the record ends at the log's durable mark or below it
 abbrev pub IsKeptBelow : ℕ → ℕ → Option Told → Kind → Type 0
-IsKeptBelow lsn durable told (kind.Load p f) = ⊤
-IsKeptBelow lsn durable told (kind.Fix p f clock now) = ⊤
-IsKeptBelow lsn durable told (kind.Create p f start end now) = end ≤ durable → IsKeptAt lsn (record_of (create_change p) start) start told
-IsKeptBelow lsn durable told (kind.Put p at bytes start end) = end ≤ durable → IsKeptAt lsn (record_of (put_change p at bytes) start) start told
-IsKeptBelow lsn durable told (kind.Evict p f passed) = ⊤
-IsKeptBelow lsn durable told (kind.Write p newest upto) = ⊤
-IsKeptBelow lsn durable told (kind.Move p from to) = ⊤
-IsKeptBelow lsn durable told (kind.Withdraw from) = ⊤
-IsKeptBelow lsn durable told (kind.Undo from) = ⊤
-IsKeptBelow lsn durable told (kind.Shrink chunks) = ⊤
-IsKeptBelow lsn durable told (kind.Grow chunks) = ⊤
-IsKeptBelow lsn durable told (kind.Resize bytes chunks) = ⊤
-IsKeptBelow lsn durable told (kind.Clean written skipped) = ⊤
-IsKeptBelow lsn durable told (kind.Check at) = ⊤
-IsKeptBelow lsn durable told (kind.WatchSet p) = ⊤
-IsKeptBelow lsn durable told (kind.WatchAt p f) = ⊤
-IsKeptBelow lsn durable told (kind.Occurred p arrived) = ⊤
-IsKeptBelow lsn durable told (kind.Unwatch p) = ⊤
-IsKeptBelow lsn durable told (kind.Dump pct ids) = ⊤
-IsKeptBelow lsn durable told (kind.Refused asked why) = ⊤
+IsKeptBelow lsn durable told k = IfSome (change_in k) (λ c. c.end ≤ durable → IsKeptKind lsn told k)
 
 abbrev pub KeepsRecordsBelow : ℕ → ℕ → Option Told → List Entry → Type 0
 KeepsRecordsBelow lsn durable told [] = ⊤
@@ -175,50 +135,15 @@ KeepsRecordsBelow lsn durable told (e ∷ h) = IsKeptBelow lsn durable told e.ki
 
 -- no refusal names an end of the log behind this one
 abbrev pub EndsCause : ℕ → Cause → Type 0
-EndsCause end (cause.PlacesSpent mark need) = ⊤
-EndsCause end (cause.NoSuchPage pages) = ⊤
-EndsCause end (cause.HoldFull held) = ⊤
-EndsCause end (cause.Resident f) = ⊤
-EndsCause end (cause.AllFixed seen) = ⊤
-EndsCause end (cause.RedoFault before after) = ⊤
-EndsCause end (cause.DiskFault before after) = ⊤
-EndsCause end (cause.BadPage bad) = ⊤
-EndsCause end (cause.LogSpent at) = at ≤ end
-EndsCause end (cause.WatchFull watches) = ⊤
-EndsCause end cause.NoWatch = ⊤
-EndsCause end cause.TooSmall = ⊤
-EndsCause end (cause.TooLarge chunks max) = ⊤
-EndsCause end (cause.Withdrawing from) = ⊤
-EndsCause end (cause.Undone seen) = ⊤
-EndsCause end (cause.NoFrame frames) = ⊤
-EndsCause end (cause.Stale found) = ⊤
-EndsCause end (cause.OtherPage found) = ⊤
-EndsCause end (cause.Latched found) = ⊤
-EndsCause end (cause.Busy found) = ⊤
-EndsCause end cause.Unheld = ⊤
+EndsCause end why = IfSome (spent_end why) (λ at. at ≤ end)
 
 -- and no entry does
 abbrev pub EndsKind : ℕ → Kind → Type 0
-EndsKind end (kind.Load p f) = ⊤
-EndsKind end (kind.Fix p f clock now) = ⊤
 EndsKind end (kind.Create p f from to now) = to ≤ end
 EndsKind end (kind.Put p at bytes from to) = to ≤ end
-EndsKind end (kind.Evict p f passed) = ⊤
-EndsKind end (kind.Write p newest upto) = ⊤
-EndsKind end (kind.Move p from to) = ⊤
-EndsKind end (kind.Withdraw from) = ⊤
-EndsKind end (kind.Undo from) = ⊤
-EndsKind end (kind.Shrink chunks) = ⊤
-EndsKind end (kind.Grow chunks) = ⊤
-EndsKind end (kind.Resize bytes chunks) = ⊤
-EndsKind end (kind.Clean written skipped) = ⊤
 EndsKind end (kind.Check lsn) = lsn ≤ end
-EndsKind end (kind.WatchSet p) = ⊤
-EndsKind end (kind.WatchAt p f) = ⊤
-EndsKind end (kind.Occurred p arrived) = ⊤
-EndsKind end (kind.Unwatch p) = ⊤
-EndsKind end (kind.Dump pct ids) = ⊤
 EndsKind end (kind.Refused asked why) = EndsCause end why
+EndsKind end _ = ⊤
 
 abbrev pub EndsBehind : ℕ → List Entry → Type 0
 EndsBehind end [] = ⊤
@@ -254,7 +179,7 @@ is_refused (event.Entry e) = is_refused_kind e.kind
 is_refused (event.Receipt r) = is_refused_note r.note
 
 -- A script was run to its end on the disk of instance 0 and the log that the shelf handed out.
-pub record IsEndedRun {D R : Type 0} (shelf : Handed) (sense : Senses D) (report : Reports R) (plan : Plan) (fault : Option FaultAt)
+pub record IsEndedRun {D R : Type 0} (shelf : Handed) (seen : D → DiskSeen) (report : Reports R) (plan : Plan) (fault : Option FaultAt)
     (trails : List Events) (disks : List D) (log : Option (RedoEnd R)) : Type 0 where
   pub trail : Events
   pub disk : D
@@ -263,21 +188,21 @@ pub record IsEndedRun {D R : Type 0} (shelf : Handed) (sense : Senses D) (report
   pub disks_are : disks ≡ disk ∷ []
   pub log_is : log ≡ Some end
   -- over every base that the disk's told bytes give, and without values where it doesn't tell
-  pub run : (base : Option (PageId → Option Content)) → IfSome base (λ first. IsBase shelf.told (pages_in (sense.spaces disk)) first)
-      → IsRunOf (opening_of plan.config base (sense.spaces disk)) (commands_of plan) fault trail
+  pub run : (base : Option (PageId → Option Content)) → IfSome base (λ first. IsBase shelf.told (pages_in (seen disk).spaces) first)
+      → IsRunOf (opening_of plan.config base) (pages_in (seen disk).spaces) (commands_of plan) fault trail
   -- each fault that the trail tells lies between the count with which its device was handed out, where that is told, and its count now
-  pub faults : AreFaultsWithin (start_of shelf) (sense.faults disk) (report.faults end.disk) (entries (reverse trail.events))
-  pub spaces_are : IfSome shelf.spaces (λ known. (s : ℕ) → sense.spaces disk s ≡ known s)
-  pub holds : (base : PageId → Option Content) → IsBase shelf.told (pages_in (sense.spaces disk)) base
-      → IsDiskOf (page_bytes plan.config.page) base (pages_in (sense.spaces disk)) shelf.told (sense.told disk) fault (entries (reverse trail.events))
+  pub faults : AreFaultsWithin (start_of shelf (pages_in (seen disk).spaces)) (seen disk).faults (report.faults end.disk) (entries (reverse trail.events))
+  pub spaces_are : IfSome shelf.spaces (λ known. (s : ℕ) → (seen disk).spaces s ≡ known s)
+  pub holds : (base : PageId → Option Content) → IsBase shelf.told (pages_in (seen disk).spaces) base
+      → IsDiskOf (page_bytes plan.config.page) base (pages_in (seen disk).spaces) shelf.told (seen disk).told fault (entries (reverse trail.events))
   pub logs : IsLogOf plan.config.lsn shelf.log report end fault (entries (reverse trail.events))
 
 -- And the script is what the source had left, where that is told.
-pub record IsEnded {D R : Type 0} (left : Option (List ℕ)) (shelf : Handed) (sense : Senses D) (report : Reports R) (fault : Option FaultAt)
+pub record IsEnded {D R : Type 0} (left : Option (List ℕ)) (shelf : Handed) (seen : D → DiskSeen) (report : Reports R) (fault : Option FaultAt)
     (trails : List Events) (disks : List D) (log : Option (RedoEnd R)) : Type 0 where
   pub plan : Plan
   pub script : (bytes : List ℕ) → left ≡ Some bytes → IsScript bytes plan
-  pub run : IsEndedRun shelf sense report plan fault trails disks log
+  pub run : IsEndedRun shelf seen report plan fault trails disks log
 
 -- A log that was handed back as it was opened: its end and how far it is durable are its length then, and it tells what it told then.
 pub record IsLogAsOpened {R : Type 0} (was : Option Told) (report : Reports R) (log : RedoEnd R) : Type 0 where
@@ -360,6 +285,6 @@ pub record IsFlushedWith (disk_was disk_is log_was log_is : ℕ) (f : FaultAt) :
   pub counts : RoseSo f.log disk_was disk_is log_was log_is f.before f.after
 
 -- each disk was synced since its last write
-abbrev pub AreSynced : {D : Type 0} → (D → Bool) → List D → Type 0
-AreSynced synced [] = ⊤
-AreSynced synced (d ∷ ds) = IsTrue (synced d) × AreSynced synced ds
+abbrev pub AreSynced : {D : Type 0} → (D → DiskSeen) → List D → Type 0
+AreSynced seen [] = ⊤
+AreSynced seen (d ∷ ds) = IsTrue (seen d).synced × AreSynced seen ds

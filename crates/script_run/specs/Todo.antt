@@ -1,5 +1,5 @@
 -- What a thread's answers are, by its commands.
-use Rattle.std.specs.Prelude.{ℕ, List, [], ◌∷◌, ◌++◌, ◌≡◌, ◌==◌, ◌&&◌, ◌<◌, ◌≤◌, ◌⊎◌, MatchOption, drop, length, filter, map, reverse, take}
+use Rattle.std.specs.Prelude.{ℕ, List, [], ◌∷◌, ◌++◌, ◌≡◌, ◌==◌, ◌&&◌, ◌<◌, ◌≤◌, ◌⊎◌, MatchOption, drop, length, filter, reverse, take}
 use Rattle.trail.specs.declared.event.Call.{Call}
 use Rattle.trail.specs.declared.event.Call.TheVariants as call
 use Rattle.trail.specs.declared.event.Cause.{Cause}
@@ -12,10 +12,10 @@ use Rattle.trail.specs.declared.event.Held.{Held}
 use Rattle.trail.specs.declared.event.Entry.{Entry}
 use Rattle.trail.specs.declared.event.Event.{Event}
 use Rattle.trail.specs.declared.event.Event.TheVariants as event
-use Rattle.trail.specs.Places.{entries}
-use Rattle.trail.specs.Dirt.{dirty}
-use Rattle.trail.specs.Legal.{written_pages, pages_of}
-use Rattle.trail.specs.Calls.{caller_of, is_answer, held_by, newest_of}
+use Rattle.trail.specs.Trails.{entries, caller_of}
+use Rattle.trail.specs.Dirt.{dirty, pages_of}
+use Rattle.trail.specs.Legal.{written_pages}
+use Rattle.trail.specs.Calls.{is_answer, held_by, newest_fix}
 use Rattle.script_text.specs.declared.script.Command.{Command}
 use Rattle.script_text.specs.declared.script.Command.TheVariants as command
 
@@ -41,7 +41,7 @@ pub record IsAllWritten (h : List Entry) (written : ℕ) (e : Entry) : Type 0 wh
   pub later : List Entry
   pub before : List Entry
   pub stands : h ≡ later ++ e ∷ before
-  pub all : pages_of (dirty (drop written before)) ≡ written_pages (map (λ (x : Entry). x.kind) (take written before))
+  pub all : pages_of (dirty (drop written before)) ≡ written_pages (take written before)
 
 abbrev pub WritesAll : List Entry → ℕ → Event → Type 0
 WritesAll h written (event.Entry e) = IsAllWritten h written e
@@ -56,13 +56,13 @@ GoesOn past h = (later : List Entry) × (h ≡ later ++ entries past)
 abbrev pub Answers : List Entry → ℕ → Command → List Event → Event → Type 0
 Answers h k (command.Fix p now) earlier e = ((frame : ℕ) × (clock : ℕ) × IsEntryOf (kind.Fix p frame clock now) e) ⊎ IsRefusal (call.Fix p now) e
 Answers h k (command.Create p now) earlier e = ((frame : ℕ) × (start : ℕ) × (end : ℕ) × IsEntryOf (kind.Create p frame start end now) e) ⊎ IsRefusal (call.Create p now) e
-Answers h k (command.Read p at len) earlier e = MatchOption (newest_of (held_by earlier k) p)
+Answers h k (command.Read p at len) earlier e = MatchOption (newest_fix (held_by earlier k) p)
     (IsReceiptOf (note.Refused (call.Read p at len) cause.Unheld) e)
     (λ held. (bytes : List ℕ) × (clock : ℕ) × (length bytes ≡ len) × IsReceiptOf (note.Copied p at bytes clock) e)
-Answers h k (command.Put p at bytes) earlier e = MatchOption (newest_of (held_by earlier k) p)
+Answers h k (command.Put p at bytes) earlier e = MatchOption (newest_fix (held_by earlier k) p)
     (IsReceiptOf (note.Refused (call.Put p at bytes) cause.Unheld) e)
     (λ held. ((start : ℕ) × (end : ℕ) × IsEntryOf (kind.Put p at bytes start end) e) ⊎ IsRefusal (call.Put p at bytes) e)
-Answers h k (command.Unfix p) earlier e = MatchOption (newest_of (held_by earlier k) p)
+Answers h k (command.Unfix p) earlier e = MatchOption (newest_fix (held_by earlier k) p)
     (IsReceiptOf (note.Refused (call.Unfix p) cause.Unheld) e)
     (λ held. IsReceiptOf (note.Unfixed p held.frame held.number) e)
 Answers h k (command.Clean bound) earlier e = ((written : ℕ) × IsEntryOf (kind.Clean written []) e × (written ≤ bound) × (written < bound → WritesAll h written e)) ⊎ IsRefusal (call.Clean bound) e

@@ -1,22 +1,24 @@
 -- A worker beside its desk: the trail so far is lawful, and both keep what it says.
-use Rattle.std.specs.Prelude.{ℕ, Bool, List, [], ◌∷◌, ◌++◌, ◌≡◌, ◌==◌, ◌+◌, ◌*◌, ◌<◌, ◌≤◌, Option, None, Some, Result, Ok, Err, ⊤, IfSome, IsSomeAnd, length, filter, reverse, slice_range, false, if◌then◌else◌}
+use Rattle.std.specs.Prelude.{ℕ, Bool, List, [], ◌∷◌, ◌++◌, ◌≡◌, ◌==◌, ◌+◌, ◌*◌, ◌<◌, ◌≤◌, Option, None, Some, Result, Ok, Err, ⊤, IfSome, IsSomeAnd, length, filter, reverse, slice_range, true, false, if◌then◌else◌}
+use Rattle.std.specs.List.{AllByRecursion}
 use Rattle.page_ids.specs.Content.{Content, IsRange}
 use Rattle.page_ids.specs.declared.ids.PageId.{PageId}
 use Rattle.page_ids.specs.declared.config.Config.{Config}
-use Rattle.page_disk.specs.Disks.{pages_in}
+use Rattle.page_disk.specs.Disks.{DiskSeen, pages_in}
 use Rattle.trail.specs.declared.event.Receipt.{Receipt}
 use Rattle.trail.specs.declared.event.Note.{Note}
 use Rattle.trail.specs.declared.event.Kind.{Kind}
+use Rattle.trail.specs.declared.event.Kind.TheVariants as kind
 use Rattle.trail.specs.declared.event.Entry.{Entry}
 use Rattle.trail.specs.declared.event.Held.{Held}
 use Rattle.trail.specs.declared.event.Event.{Event}
-use Rattle.trail.specs.Alone.{AreExact}
-use Rattle.trail.specs.Places.{mark, entries, receipts}
+use Rattle.trail.specs.Alone.{AreTrue}
+use Rattle.trail.specs.Trails.{mark, entries, receipts, caller_of, Opening, own}
 use Rattle.trail.specs.History.{home, disk_faults, log_faults}
 use Rattle.trail.specs.Dirt.{log_end}
-use Rattle.trail.specs.Calls.{caller_of, is_answer, next_number, under_way, held_by, held_after_kind, held_after_note}
-use Rattle.trail.specs.Opening.{Opening}
-use Rattle.trail.specs.Laws.{IsGood}
+use Rattle.trail.specs.Book.{book}
+use Rattle.trail.specs.Calls.{calls_of, made, is_answer, is_answered, held_by, held_after_kind, held_after_note}
+use Rattle.trail.specs.Laws.{AreLawful}
 use Rattle.trail.specs.Promises.{ArePromised}
 use Rattle.redo_mark.specs.Logs.{Seen, IsLater}
 use Rattle.frame_words.specs.Plain.{Plain, seen_of, unheld_at}
@@ -54,47 +56,62 @@ abbrev pub AreOf : ℕ → List Event → Type 0
 AreOf c [] = Unit {0}
 AreOf c (e ∷ past) = (caller_of e ≡ c) × AreOf c past
 
--- what a disk is to its instance: page size, whether it tells, told pages, spaces and count of faults
-pub record Senses (D : Type 0) : Type 0 where
-  pub size : D → ℕ
-  pub tells : D → Bool
-  pub told : D → PageId → Option (List ℕ)
-  pub spaces : D → ℕ → Option ℕ
-  pub faults : D → ℕ
+-- the call under way has made its first entry, or not
+abbrev pub not_begun : List Entry → ℕ
+not_begun [] = 1
+not_begun (e ∷ made) = 0
 
-abbrev pub senses : {D : Type 0} → (D → ℕ) → (D → Bool) → (D → PageId → Option (List ℕ)) → (D → ℕ → Option ℕ) → (D → ℕ) → Senses D
-senses size tells told spaces faults = record { size = size; tells = tells; told = told; spaces = spaces; faults = faults }
+-- What a worker's own events say of its call with this number, which has made these entries: every earlier one has its answer.
+pub record IsCalling (mine : List Event) (n : ℕ) (pending : List Entry) : Type 0 where
+  pub first : 1 ≤ n
+  pub made_are : made n mine ≡ pending
+  pub count : calls_of mine + not_begun pending ≡ n
+  pub unanswered : is_answered n mine ≡ false
+  pub settled : (k : ℕ) → 1 ≤ k → k < n → is_answered k mine ≡ true
 
--- What stands between two calls of a worker, whose call under way has these entries; the devices were handed out so.
-pub record SoFar {D : Type 0} (sense : Senses D) (o : Opening) (start : Start) (desk : State D) (log : Seen) (worker : Working) (past : List Event) (pending : List Kind) : Type 0 where
-  pub good : IsGood o past
-  pub promised : ArePromised o past
+-- whether the entry leaves the chunks as they are
+abbrev pub leaves_chunks : Kind → Bool
+leaves_chunks (kind.Withdraw from) = false
+leaves_chunks (kind.Undo from) = false
+leaves_chunks (kind.Shrink chunks) = false
+leaves_chunks (kind.Grow chunks) = false
+leaves_chunks _ = true
+
+abbrev pub AreSteady : List Entry → Type 0
+AreSteady h = AllByRecursion (λ (e : Entry). leaves_chunks e.kind ≡ true) h
+
+-- What stands between two calls of a worker, or between two entries of one, which has made these entries; the devices were handed out so.
+pub record SoFar {D : Type 0} (seen : D → DiskSeen) (o : Opening) (start : Start) (desk : State D) (log : Seen) (worker : Working) (past : List Event) (pending : List Entry) : Type 0 where
+  pub good : AreLawful o past
+  pub promised : ArePromised o start.pages past
   pub entries_are : entries past ≡ desk.history
   pub receipts_are : receipts past ≡ worker.account
   pub first_is : desk.config.first ≡ o.first
   pub config_is : desk.config ≡ o.config
-  pub pages_are : (s : ℕ) → o.pages s ≡ pages_in (sense.spaces desk.disk) s
+  pub pages_are : (s : ℕ) → start.pages s ≡ pages_in (seen desk.disk).spaces s
   pub logged : IsLogged log desk.history
-  pub faults : AreFaultsWithin start (sense.faults desk.disk) log.faults desk.history
-  pub last_fault : disk_faults desk.history ≤ sense.faults desk.disk
+  pub faults : AreFaultsWithin start (seen desk.disk).faults log.faults desk.history
+  pub last_fault : disk_faults desk.history ≤ (seen desk.disk).faults
   pub last_log_fault : log_faults desk.history ≤ log.faults
-  pub low_is : start.disk_faults ≤ sense.faults desk.disk
+  pub low_is : start.disk_faults ≤ (seen desk.disk).faults
   pub low_log : start.log_faults ≤ log.faults
-  pub number : next_number past worker.pass ≡ worker.next
-  pub calls : under_way past worker.pass ≡ pending
+  pub calls : IsCalling (own worker.pass past) worker.next pending
+  -- no chunks came or went, and between calls no frame is in hand
+  pub steady : AreSteady desk.history
+  pub empty_handed : pending ≡ [] → (book desk.config desk.history).hand ≡ None
   pub held : held_by past worker.pass ≡ worker.fixed
   pub falling : AreFalling worker.next worker.fixed
   pub alone : AreOf worker.pass past
-  -- the worker is the only caller, so the words that it found are exactly what the trail says
-  pub exact : AreExact worker.pass past
+  -- the worker is the only caller, so the words that it found are just what the trail says
+  pub exact : AreTrue (Some worker.pass) past
 
 -- what stands on the disk and in the frames behind a desk
-abbrev pub IsBehindIt : {D : Type 0} → Senses D → Opened → State D → Plain → Type 0
-IsBehindIt sense o desk frames = IsBehind sense.tells sense.told sense.spaces o desk (seen_of frames)
+abbrev pub IsBehindIt : {D : Type 0} → (D → DiskSeen) → Opened → State D → Plain → Type 0
+IsBehindIt seen o desk frames = IsBehind seen o desk (seen_of frames)
 
 -- Where values are told: each image is its page's value, and the disk has what was last written of each page.
-abbrev pub StandsBehind : {D : Type 0} → Senses D → Opening → Start → State D → Plain → Type 0
-StandsBehind sense o start desk frames = IfSome o.base (λ base. IsBehindIt sense (opened_of o start base) desk frames)
+abbrev pub StandsBehind : {D : Type 0} → (D → DiskSeen) → Opening → Start → State D → Plain → Type 0
+StandsBehind seen o start desk frames = IfSome o.base (λ base. IsBehindIt seen (opened_of o start base) desk frames)
 
 -- the worker after an answer by an entry
 abbrev pub with_answer : Working → Kind → Working
@@ -113,11 +130,11 @@ abbrev pub with_note : {D : Type 0} → State D → Working → Note → Working
 with_note desk w n = record { pass = w.pass; next = w.next + 1; fixed = held_after_note w.next n w.fixed; account = next_receipt desk w n ∷ w.account }
 
 -- A command was done: events that are no answers came, and then its answer.
-pub record Does {D : Type 0} (sense : Senses D) (o : Opening) (start : Start) (desk : State D) (log : Seen) (worker : Working) (past : List Event) (command : Command) : Type 0 where
+pub record Does {D : Type 0} (seen : D → DiskSeen) (o : Opening) (start : Start) (desk : State D) (log : Seen) (worker : Working) (past : List Event) (command : Command) : Type 0 where
   pub answer : Event
   pub before : List Event
   pub quiet : filter is_answer before ≡ []
-  pub so_far : SoFar sense o start desk log worker (answer ∷ before ++ past) []
+  pub so_far : SoFar seen o start desk log worker (answer ∷ before ++ past) []
   pub answers : (h : List Entry) → GoesOn (answer ∷ before ++ past) h → Answers h worker.pass command past answer
 
 -- each fix that is held is of a page that is in its frame
@@ -143,8 +160,8 @@ abbrev pub AreHeld : List Row → List Held → Type 0
 AreHeld rows fixed = (f : ℕ) → f < length rows → (row_in rows f).held ≡ Some (fixes_in f fixed)
 
 -- What the next call of a worker with these fixes needs of desk and frames, and leaves true. A pass may hold 64.
-pub record IsReady {D : Type 0} (sense : Senses D) (desk : State D) (frames : Plain) (fixed : List Held) : Type 0 where
-  pub tied : AreTied sense.tells sense.told sense.spaces (seen_of frames) desk
+pub record IsReady {D : Type 0} (seen : D → DiskSeen) (desk : State D) (frames : Plain) (fixed : List Held) : Type 0 where
+  pub tied : AreTied seen (seen_of frames) desk
   pub homes : AreInChunk desk.config desk.history
   pub apart : AreApart desk.history
   pub housed : AreHoused desk.history fixed
@@ -159,7 +176,7 @@ pub record IsAtRest (frames : Plain) (f : ℕ) : Type 0 where
 
 -- the image is told, and has this range in its body
 abbrev pub HasRange : Option (Option Content) → ℕ → ℕ → Type 0
-HasRange image at len = IsSomeAnd image (λ told. IsSomeAnd told (λ c. IsRange c.bytes at len))
+HasRange image at len = IsSomeAnd image (λ told. IsSomeAnd told (λ c. IsRange (length c.bytes) at len))
 
 -- the bytes are those of the image, at this range
 abbrev pub IsRangeOf : Option (Option Content) → ℕ → ℕ → List ℕ → Type 0
@@ -193,36 +210,36 @@ abbrev pub given_at : Plain → ℕ → Plain
 given_at p f = record (unheld_at p f) { visit = None }
 
 -- So many commands led from the one desk, its frames, log and worker to the other: what the next one's conditions ask. A clean has the most entries.
-pub record Along {D : Type 0} (sense : Senses D) (n : ℕ) (old new : State D) (before after : Plain) (was is : Seen) (w v : Working) : Type 0 where
-  pub left : LeavesDesk sense.size sense.tells sense.spaces sense.faults old new
+pub record Along {D : Type 0} (seen : D → DiskSeen) (n : ℕ) (old new : State D) (before after : Plain) (was is : Seen) (w v : Working) : Type 0 where
+  pub left : LeavesDesk seen old new
   pub grown : length new.history ≤ length old.history + 16385 * n
   pub pass : v.pass ≡ w.pass
   pub next : v.next ≡ w.next + n
-  pub ready : IsReady sense old before w.fixed → IsReady sense new after v.fixed
-  pub behind : (o : Opened) → IsBehindIt sense o old before → IsBehindIt sense o new after
+  pub ready : IsReady seen old before w.fixed → IsReady seen new after v.fixed
+  pub behind : (o : Opened) → IsBehindIt seen o old before → IsBehindIt seen o new after
   pub log : IsLater was is
   pub known : log_end old.history ≤ was.end → log_end new.history ≤ is.end
 
 -- Of the commands those before the rest were done; the answers so far, the newest first, with any that suit the rest, suit all.
-pub record Progress {D : Type 0} (sense : Senses D) (o : Opening) (start : Start) (desk : State D) (log : Seen) (worker : Working) (past : List Event) (commands rest : List Command) : Type 0 where
+pub record Progress {D : Type 0} (seen : D → DiskSeen) (o : Opening) (start : Start) (desk : State D) (log : Seen) (worker : Working) (past : List Event) (commands rest : List Command) : Type 0 where
   pub more : List Event
   pub done : List Event
-  pub so_far : SoFar sense o start desk log worker (more ++ past) []
+  pub so_far : SoFar seen o start desk log worker (more ++ past) []
   pub done_are : filter is_answer more ≡ done
   pub held : held_by (more ++ past) worker.pass ≡ held_by (done ++ past) worker.pass
   pub left : (h : List Entry) (tail : List Event) → GoesOn (more ++ past) h → Todo h worker.pass rest (done ++ past) tail → Todo h worker.pass commands past (reverse done ++ tail)
 
 -- All commands were done, and what is still held has to be given back.
-pub record Ending {D : Type 0} (sense : Senses D) (o : Opening) (start : Start) (desk : State D) (log : Seen) (worker : Working) (past : List Event) (commands : List Command) : Type 0 where
+pub record Ending {D : Type 0} (seen : D → DiskSeen) (o : Opening) (start : Start) (desk : State D) (log : Seen) (worker : Working) (past : List Event) (commands : List Command) : Type 0 where
   pub more : List Event
   pub done : List Event
-  pub so_far : SoFar sense o start desk log worker (more ++ past) []
+  pub so_far : SoFar seen o start desk log worker (more ++ past) []
   pub done_are : filter is_answer more ≡ done
   pub left : (h : List Entry) (tail : List Event) → GoesOn (more ++ past) h → GivesBack worker.fixed tail → Todo h worker.pass commands past (reverse done ++ tail)
 
 -- The thread is done: its answers are those of its commands, and it holds nothing.
-pub record Worked {D : Type 0} (sense : Senses D) (o : Opening) (start : Start) (desk : State D) (log : Seen) (worker : Working) (past : List Event) (commands : List Command) : Type 0 where
+pub record Worked {D : Type 0} (seen : D → DiskSeen) (o : Opening) (start : Start) (desk : State D) (log : Seen) (worker : Working) (past : List Event) (commands : List Command) : Type 0 where
   pub more : List Event
-  pub so_far : SoFar sense o start desk log worker (more ++ past) []
+  pub so_far : SoFar seen o start desk log worker (more ++ past) []
   pub none : worker.fixed ≡ []
   pub todo : (h : List Entry) → GoesOn (more ++ past) h → Todo h worker.pass commands past (reverse (filter is_answer more))

@@ -1,11 +1,12 @@
 //! A thread's create: a page that nobody reads from the disk.
+ghost use Rattle.page_ids.specs.declared.limits.TheConstants.{FIX_NEED, LIMIT};
 ghost use Rattle.std.specs.Prelude.{◌≡◌, ◌<◌, ◌≤◌, ◌+◌, ◌^◌, [], List, None, Ok, OnOk, IfOk, IfSome, length, reverse};
 ghost use Rattle.trail.specs.Dirt.{log_end};
-ghost use Rattle.trail.specs.Opening.{Opening};
+ghost use Rattle.trail.specs.Trails.{Opening};
 ghost use Rattle.trail.specs.declared.event.Event.{Event};
 ghost use Rattle.script_text.specs.declared.script.Command.TheVariants.{Create};
 ghost use Rattle.script_run.specs.Openings.{Start};
-ghost use Rattle.script_run.specs.Work.{senses, SoFar, Does, Along, IsReady, RefusesCreate};
+ghost use Rattle.script_run.specs.Work.{SoFar, Does, Along, IsReady, RefusesCreate};
 ghost use Rattle.script_run.specs.Workers.{working};
 
 use crate::worker::Worker;
@@ -44,15 +45,15 @@ impl Worker {
         page: PageId,
         now: u64,
     ) -> Result<(), OutOfMemory>
-        requires places { desk.old.state.config.first + length desk.old.state.history + 3 < 2 ^ 48 }
+        requires places { desk.old.state.config.first + length desk.old.state.history + FIX_NEED ≤ LIMIT }
         requires number { self.old.next + 1 < 2 ^ 32 }
-        requires ready { IsReady (senses D.page_size D.tells D.told D.space_pages D.fault_count) desk.old.state frames.old (reverse self.old.fixed.items) }
+        requires ready { IsReady D.seen desk.old.state frames.old (reverse self.old.fixed.items) }
         requires known { log_end desk.old.state.history ≤ redo.old.seen.end }
-        ensures along { OnOk result (Along (senses D.page_size D.tells D.told D.space_pages D.fault_count) 1
+        ensures along { OnOk result (Along D.seen 1
             desk.old.state desk.new.state frames.old frames.new redo.old.seen redo.new.seen (working self.old) (working self.new)) }
         ensures done { OnOk result ((o : Opening) (start : Start) (past : List Event)
-            → SoFar (senses D.page_size D.tells D.told D.space_pages D.fault_count) o start desk.old.state redo.old.seen (working self.old) past []
-            → Does (senses D.page_size D.tells D.told D.space_pages D.fault_count) o start desk.new.state redo.new.seen (working self.new) past (Create page now)) }
+            → SoFar D.seen o start desk.old.state redo.old.seen (working self.old) past []
+            → Does D.seen o start desk.new.state redo.new.seen (working self.new) past (Create page now)) }
         ensures opening { redo.new.opening ≡ redo.old.opening }
     {
         self.fixed.reserve(1)?;

@@ -15,7 +15,7 @@ ghost use Rattle.script_text.specs.Plan.{Plan, commands_of};
 ghost use Rattle.script_text.specs.Within.{IsWithin};
 ghost use Rattle.script_text.specs.Verdict.{IsScript, IsBad};
 ghost use Rattle.script_run.specs.Ends.{IsTakenWithin};
-ghost use Rattle.script_run.specs.Work.{senses, IsReady, IsBehindIt};
+ghost use Rattle.script_run.specs.Work.{IsReady, IsBehindIt};
 ghost use Rattle.script_run.specs.Runs.{IsFlushFault, IsFlushedWith, IsClosed, IsEndedRun, IsEnded, IsLongLog, IsLogAsOpened, HasEnded, IsRunStatus, IsSilent, IsNoScript, AreSynced};
 ghost use Rattle.script_run.specs.Runs.{IsWritten, IsWrittenInPart, AreRun, IsAskedOnce, handed, reports, is_refused, has_refusal};
 
@@ -85,21 +85,21 @@ fn close<D: PageDisk, R: RedoDisk>(
     redo: &mut Redo<R>,
 ) -> Result<Option<FaultAt>, OutOfMemory>
     requires places { desk.old.state.config.first + length desk.old.state.history + length (dirty desk.old.state.history) + 1 < 2 ^ 48 }
-    requires ready { IsReady (senses D.page_size D.tells D.told D.space_pages D.fault_count) desk.old.state frames.old [] }
+    requires ready { IsReady D.seen desk.old.state frames.old [] }
     requires frames { desk.old.state.config.frames ≤ 8192 }
     requires known { log_end desk.old.state.history ≤ redo.old.seen.end }
     ensures closed { IfOk result (λ fault. IsClosed desk.old.state desk.new.state fault) }
-    ensures fault { IfOk result (λ fault. IfSome fault (λ f. IsFlushedWith (D.fault_count desk.old.state.disk)
-        (D.fault_count desk.new.state.disk) redo.old.seen.faults redo.new.seen.faults f)) }
+    ensures fault { IfOk result (λ fault. IfSome fault (λ f. IsFlushedWith (D.seen desk.old.state.disk).faults
+        (D.seen desk.new.state.disk).faults redo.old.seen.faults redo.new.seen.faults f)) }
     ensures logged { IsLogged redo.old.seen desk.old.state.history → IsLogged redo.new.seen desk.new.state.history }
     ensures known { log_end desk.new.state.history ≤ redo.new.seen.end }
     ensures later { IsLater redo.old.seen redo.new.seen }
     ensures opening { redo.new.opening ≡ redo.old.opening }
-    ensures counted { D.fault_count desk.old.state.disk ≤ D.fault_count desk.new.state.disk }
-    ensures spaces { (space : ℕ) → D.space_pages desk.new.state.disk space ≡ D.space_pages desk.old.state.disk space }
-    ensures behind { (o : Opened) → IsBehindIt (senses D.page_size D.tells D.told D.space_pages D.fault_count) o desk.old.state frames.old
-        → IsBehindIt (senses D.page_size D.tells D.told D.space_pages D.fault_count) o desk.new.state frames.new }
-    ensures synced { IfOk result (λ fault. fault ≡ None → IsTrue (D.synced desk.new.state.disk)) }
+    ensures counted { (D.seen desk.old.state.disk).faults ≤ (D.seen desk.new.state.disk).faults }
+    ensures spaces { (space : ℕ) → (D.seen desk.new.state.disk).spaces space ≡ (D.seen desk.old.state.disk).spaces space }
+    ensures behind { (o : Opened) → IsBehindIt D.seen o desk.old.state frames.old
+        → IsBehindIt D.seen o desk.new.state frames.new }
+    ensures synced { IfOk result (λ fault. fault ≡ None → IsTrue (D.seen desk.new.state.disk).synced) }
     ensures whole { IfOk result (λ fault. fault ≡ None → redo.new.seen.durable ≡ redo.new.seen.end) }
 {
     dirty_pages_are_apart();
@@ -119,16 +119,16 @@ fn run_on<D: PageDisk, R: RedoDisk>(
     disk: D,
     log: R,
 ) -> Result<Ended<D, R>, OutOfMemory>
-    requires size { D.page_size disk ≡ page_bytes script.now.config.page }
+    requires size { (D.seen disk).size ≡ page_bytes script.now.config.page }
     requires script { IsWithin script.now }
     requires limit { script.now.config.lsn + R.opened log ≤ 2 ^ 63 }
     requires opened { IsAsOpened (R.opened log) (R.told log) }
-    ensures run { IfOk result (λ e. IsEndedRun (handed (D.told disk) (Some (D.space_pages disk)) (Some (D.fault_count disk))
+    ensures run { IfOk result (λ e. IsEndedRun (handed (D.seen disk).told (Some (D.seen disk).spaces) (Some (D.seen disk).faults)
         (R.told log) (Some (R.fault_count log)))
-        (senses D.page_size D.tells D.told D.space_pages D.fault_count) (reports R.told R.opened R.fault_count)
+        D.seen (reports R.told R.opened R.fault_count)
         script.now e.fault (e.trail ∷ []) (e.disk ∷ []) (Some e.redo)) }
     ensures fault { IfOk result (λ e. IfSome e.fault (λ f. IsFlushFault f)) }
-    ensures synced { IfOk result (λ e. e.fault ≡ None → IsTrue (D.synced e.disk)) }
+    ensures synced { IfOk result (λ e. e.fault ≡ None → IsTrue (D.seen e.disk).synced) }
 {
     let config = script.config();
     let mut redo = match Redo::start(alloc, log, config.lsn) {
@@ -262,7 +262,7 @@ fn run_script<K: Sink, H: Shelf>(
     ensures opening { result.status ≡ 6 → result.fault ≡ None → Rose (H.fault_count shelf.old) (H.fault_count shelf.new) }
     ensures ended { HasEnded result.status result.fault → IsEndedRun (handed (H.disk_told shelf.old 0) (H.disk_spaces shelf.old 0) (H.disk_faults shelf.old 0)
         (H.log_told shelf.old) (H.log_faults shelf.old))
-        (senses H.Disk.page_size H.Disk.tells H.Disk.told H.Disk.space_pages H.Disk.fault_count)
+        H.Disk.seen
         (reports H.Redo.told H.Redo.opened H.Redo.fault_count)
         script.now result.fault result.trails.items result.disks.items result.redo }
     ensures long { result.status ≡ 3 → IsSomeAnd result.redo (λ r. IsLogAsOpened (H.log_told shelf.old)
@@ -277,7 +277,7 @@ fn run_script<K: Sink, H: Shelf>(
     ensures unwritten { (result.status ≡ 3) ⊎ (result.status ≡ 6) ⊎ (result.status ≡ 7) → out.new ≡ out.old }
     ensures asked { H.asked shelf.old ≡ unasked → (log : Bool)
         × (H.asked shelf.new ≡ record { config = Some script.now.config; disks = 1; log = log; strayed = false }) }
-    ensures synced { HasEnded result.status result.fault → result.fault ≡ None → AreSynced H.Disk.synced result.disks.items }
+    ensures synced { HasEnded result.status result.fault → result.fault ≡ None → AreSynced H.Disk.seen result.disks.items }
 {
     let config = script.config();
     let Ok(disk) = shelf.disk(config, 0) else {
@@ -353,7 +353,7 @@ pub fn run<R, S: Source, K: Sink, H: Shelf>(
     ensures opening { result.status ≡ 6 → result.fault ≡ None → Rose (H.fault_count shelf.old) (H.fault_count shelf.new) }
     ensures ended { HasEnded result.status result.fault → IsEnded (S.left script.old) (handed (H.disk_told shelf.old 0) (H.disk_spaces shelf.old 0) (H.disk_faults shelf.old 0)
         (H.log_told shelf.old) (H.log_faults shelf.old))
-        (senses H.Disk.page_size H.Disk.tells H.Disk.told H.Disk.space_pages H.Disk.fault_count)
+        H.Disk.seen
         (reports H.Redo.told H.Redo.opened H.Redo.fault_count)
         result.fault result.trails.items result.disks.items result.redo }
     ensures read_whole { HasEnded result.status result.fault → (bytes : List ℕ) → S.left script.old ≡ Some bytes → S.left script.new ≡ Some [] }
@@ -367,7 +367,7 @@ pub fn run<R, S: Source, K: Sink, H: Shelf>(
     ensures unasked { (result.status ≡ 4) ⊎ ((result.status ≡ 3) × (result.redo ≡ None)) → shelf.new ≡ shelf.old }
     ensures asked { H.asked shelf.old ≡ unasked → (H.asked shelf.new ≡ unasked) ⊎ IsAskedOnce (S.left script.old) (H.asked shelf.new) }
     ensures taken { IsTakenWithin 0 1048577 (S.left script.old) (S.left script.new) }
-    ensures synced { HasEnded result.status result.fault → result.fault ≡ None → AreSynced H.Disk.synced result.disks.items }
+    ensures synced { HasEnded result.status result.fault → result.fault ≡ None → AreSynced H.Disk.seen result.disks.items }
 {
     let _rt = rt;
     match judge_words(alloc, words) {

@@ -1,8 +1,9 @@
 //! A thread of a script: its calls, one after the other.
+ghost use Rattle.page_ids.specs.declared.limits.TheConstants.{ANSWER_NEED, FIX_NEED, LIMIT};
 ghost use Rattle.std.specs.Prelude.{◌≡◌, ◌<◌, ◌≤◌, ◌+◌, ◌*◌, ◌^◌, ℕ, List, [], Some, None, Ok, OnOk, IfOk, IsSome, IfSome, IfNone, length, slice_get, reverse};
 ghost use Rattle.std.specs.List.{AllByRecursion};
-ghost use Rattle.trail.specs.Calls.{newest_of};
-ghost use Rattle.trail.specs.Opening.{Opening};
+ghost use Rattle.trail.specs.Calls.{newest_fix};
+ghost use Rattle.trail.specs.Trails.{Opening};
 ghost use Rattle.trail.specs.declared.event.Event.{Event};
 ghost use Rattle.frame_words.specs.Plain.{Plain, held_of};
 ghost use Rattle.desk.specs.Steps.{row_in};
@@ -12,7 +13,7 @@ ghost use Rattle.trail.specs.Dirt.{log_end};
 ghost use Rattle.desk.specs.Base.{Opened};
 ghost use Rattle.desk.specs.Changes.{LeavesDesk};
 ghost use Rattle.script_run.specs.Openings.{Start};
-ghost use Rattle.script_run.specs.Work.{senses, SoFar, StandsBehind, IsBehindIt, Does, noted_at, Along, IsReady, IsAtRest, HasRange, IsRangeOf, RefusesFix, given_at, Progress, Ending, Worked};
+ghost use Rattle.script_run.specs.Work.{SoFar, StandsBehind, IsBehindIt, Does, noted_at, Along, IsReady, IsAtRest, HasRange, IsRangeOf, RefusesFix, given_at, Progress, Ending, Worked};
 ghost use Rattle.script_run.specs.Workers.{working};
 
 use desk::{CallErr, Caller, CleanErr, Desk, FixErr, Granted, PutErr, dirty_pages_are_few};
@@ -121,16 +122,16 @@ impl Worker {
         page: PageId,
         now: u64,
     ) -> Result<(), OutOfMemory>
-        requires places { desk.old.state.config.first + length desk.old.state.history + 4 < 2 ^ 48 }
+        requires places { desk.old.state.config.first + length desk.old.state.history + FIX_NEED ≤ LIMIT }
         requires number { self.old.next + 1 < 2 ^ 32 }
-        requires ready { IsReady (senses D.page_size D.tells D.told D.space_pages D.fault_count) desk.old.state frames.old (reverse self.old.fixed.items) }
+        requires ready { IsReady D.seen desk.old.state frames.old (reverse self.old.fixed.items) }
         requires known { log_end desk.old.state.history ≤ redo.old.seen.end }
-        ensures along { OnOk result (Along (senses D.page_size D.tells D.told D.space_pages D.fault_count) 1
+        ensures along { OnOk result (Along D.seen 1
             desk.old.state desk.new.state frames.old frames.new redo.old.seen redo.new.seen (working self.old) (working self.new)) }
         ensures done { OnOk result ((o : Opening) (start : Start) (past : List Event)
-            → SoFar (senses D.page_size D.tells D.told D.space_pages D.fault_count) o start desk.old.state redo.old.seen (working self.old) past []
-            → StandsBehind (senses D.page_size D.tells D.told D.space_pages D.fault_count) o start desk.old.state frames.old
-            → Does (senses D.page_size D.tells D.told D.space_pages D.fault_count) o start desk.new.state redo.new.seen (working self.new) past (Command.Fix page now)) }
+            → SoFar D.seen o start desk.old.state redo.old.seen (working self.old) past []
+            → StandsBehind D.seen o start desk.old.state frames.old
+            → Does D.seen o start desk.new.state redo.new.seen (working self.new) past (Command.Fix page now)) }
         ensures opening { redo.new.opening ≡ redo.old.opening }
     {
         self.fixed.reserve(1)?;
@@ -195,8 +196,8 @@ impl Worker {
 
     /// Where the newest fix of the page stands.
     fn newest(&self, page: PageId) -> Option<usize>
-        ensures some { IfSome result (λ at. (at < length self.now.fixed.items) × (slice_get self.now.fixed.items at ≡ newest_of (reverse self.now.fixed.items) page) × IsSome (newest_of (reverse self.now.fixed.items) page)) }
-        ensures none { IfNone result (newest_of (reverse self.now.fixed.items) page ≡ None) }
+        ensures some { IfSome result (λ at. (at < length self.now.fixed.items) × (slice_get self.now.fixed.items at ≡ newest_fix (reverse self.now.fixed.items) page) × IsSome (newest_fix (reverse self.now.fixed.items) page)) }
+        ensures none { IfNone result (newest_fix (reverse self.now.fixed.items) page ≡ None) }
     {
         let mut at = self.fixed.len();
         while at > 0 {
@@ -221,14 +222,14 @@ impl Worker {
     ) -> Result<(), OutOfMemory>
         requires places { desk.now.state.config.first + length desk.now.state.history < 2 ^ 64 }
         requires number { self.old.next + 1 < 2 ^ 32 }
-        requires ready { IsReady (senses D.page_size D.tells D.told D.space_pages D.fault_count) desk.now.state frames.old (reverse self.old.fixed.items) }
+        requires ready { IsReady D.seen desk.now.state frames.old (reverse self.old.fixed.items) }
         requires range { IsInRange desk.now.state.config.page (Command.Read page at len) }
-        ensures along { OnOk result ((log : Seen) → Along (senses D.page_size D.tells D.told D.space_pages D.fault_count) 1
+        ensures along { OnOk result ((log : Seen) → Along D.seen 1
             desk.now.state desk.now.state frames.old frames.new log log (working self.old) (working self.new)) }
         ensures done { OnOk result ((o : Opening) (start : Start) (log : Seen) (past : List Event)
-            → SoFar (senses D.page_size D.tells D.told D.space_pages D.fault_count) o start desk.now.state log (working self.old) past []
-            → StandsBehind (senses D.page_size D.tells D.told D.space_pages D.fault_count) o start desk.now.state frames.old
-            → Does (senses D.page_size D.tells D.told D.space_pages D.fault_count) o start desk.now.state log (working self.new) past (Command.Read page at len)) }
+            → SoFar D.seen o start desk.now.state log (working self.old) past []
+            → StandsBehind D.seen o start desk.now.state frames.old
+            → Does D.seen o start desk.now.state log (working self.new) past (Command.Read page at len)) }
     {
         let place = desk.mark();
         let Some(newest) = self.newest(page) else {
@@ -260,13 +261,13 @@ impl Worker {
     ) -> Result<(), OutOfMemory>
         requires places { desk.now.state.config.first + length desk.now.state.history < 2 ^ 64 }
         requires number { self.old.next + 1 < 2 ^ 32 }
-        requires ready { IsReady (senses D.page_size D.tells D.told D.space_pages D.fault_count) desk.now.state frames.old (reverse self.old.fixed.items) }
-        ensures along { OnOk result ((log : Seen) → Along (senses D.page_size D.tells D.told D.space_pages D.fault_count) 1
+        requires ready { IsReady D.seen desk.now.state frames.old (reverse self.old.fixed.items) }
+        ensures along { OnOk result ((log : Seen) → Along D.seen 1
             desk.now.state desk.now.state frames.old frames.new log log (working self.old) (working self.new)) }
         ensures done { OnOk result ((o : Opening) (start : Start) (log : Seen) (past : List Event)
-            → SoFar (senses D.page_size D.tells D.told D.space_pages D.fault_count) o start desk.now.state log (working self.old) past []
-            → StandsBehind (senses D.page_size D.tells D.told D.space_pages D.fault_count) o start desk.now.state frames.old
-            → Does (senses D.page_size D.tells D.told D.space_pages D.fault_count) o start desk.now.state log (working self.new) past (Command.Unfix page)) }
+            → SoFar D.seen o start desk.now.state log (working self.old) past []
+            → StandsBehind D.seen o start desk.now.state frames.old
+            → Does D.seen o start desk.now.state log (working self.new) past (Command.Unfix page)) }
     {
         let place = desk.mark();
         let Some(at) = self.newest(page) else {
@@ -298,16 +299,16 @@ impl Worker {
         at: u32,
         bytes: &[u8],
     ) -> Result<(), OutOfMemory>
-        requires places { desk.old.state.config.first + length desk.old.state.history + 1 < 2 ^ 48 }
+        requires places { desk.old.state.config.first + length desk.old.state.history + ANSWER_NEED ≤ LIMIT }
         requires number { self.old.next + 1 < 2 ^ 32 }
-        requires ready { IsReady (senses D.page_size D.tells D.told D.space_pages D.fault_count) desk.old.state frames.old (reverse self.old.fixed.items) }
+        requires ready { IsReady D.seen desk.old.state frames.old (reverse self.old.fixed.items) }
         requires range { IsInRange desk.old.state.config.page (Command.Put page at bytes.now) }
         requires known { log_end desk.old.state.history ≤ redo.old.seen.end }
-        ensures along { OnOk result (Along (senses D.page_size D.tells D.told D.space_pages D.fault_count) 1
+        ensures along { OnOk result (Along D.seen 1
             desk.old.state desk.new.state frames.old frames.new redo.old.seen redo.new.seen (working self.old) (working self.new)) }
         ensures done { OnOk result ((o : Opening) (start : Start) (past : List Event)
-            → SoFar (senses D.page_size D.tells D.told D.space_pages D.fault_count) o start desk.old.state redo.old.seen (working self.old) past []
-            → Does (senses D.page_size D.tells D.told D.space_pages D.fault_count) o start desk.new.state redo.new.seen (working self.new) past
+            → SoFar D.seen o start desk.old.state redo.old.seen (working self.old) past []
+            → Does D.seen o start desk.new.state redo.new.seen (working self.new) past
             (Command.Put page at bytes.now)) }
         ensures opening { redo.new.opening ≡ redo.old.opening }
     {
@@ -340,16 +341,16 @@ impl Worker {
         redo: &mut Redo<R>,
         bound: u32,
     ) -> Result<(), OutOfMemory>
-        requires places { desk.old.state.config.first + 2 * length desk.old.state.history + 4 < 2 ^ 48 }
+        requires places { desk.old.state.config.first + 2 * length desk.old.state.history + 16385 ≤ LIMIT }
         requires number { self.old.next + 1 < 2 ^ 32 }
-        requires ready { IsReady (senses D.page_size D.tells D.told D.space_pages D.fault_count) desk.old.state frames.old (reverse self.old.fixed.items) }
+        requires ready { IsReady D.seen desk.old.state frames.old (reverse self.old.fixed.items) }
         requires range { IsInRange desk.old.state.config.page (Command.Clean bound) }
         requires known { log_end desk.old.state.history ≤ redo.old.seen.end }
-        ensures along { OnOk result (Along (senses D.page_size D.tells D.told D.space_pages D.fault_count) 1
+        ensures along { OnOk result (Along D.seen 1
             desk.old.state desk.new.state frames.old frames.new redo.old.seen redo.new.seen (working self.old) (working self.new)) }
         ensures done { OnOk result ((o : Opening) (start : Start) (past : List Event)
-            → SoFar (senses D.page_size D.tells D.told D.space_pages D.fault_count) o start desk.old.state redo.old.seen (working self.old) past []
-            → Does (senses D.page_size D.tells D.told D.space_pages D.fault_count) o start desk.new.state redo.new.seen (working self.new) past (Command.Clean bound)) }
+            → SoFar D.seen o start desk.old.state redo.old.seen (working self.old) past []
+            → Does D.seen o start desk.new.state redo.new.seen (working self.new) past (Command.Clean bound)) }
         ensures opening { redo.new.opening ≡ redo.old.opening }
     {
         dirty_pages_are_few();
@@ -382,14 +383,14 @@ impl Worker {
         desk: &mut Desk<D>,
         redo: &Redo<R>,
     ) -> Result<(), OutOfMemory>
-        requires places { desk.old.state.config.first + length desk.old.state.history + 1 < 2 ^ 48 }
+        requires places { desk.old.state.config.first + length desk.old.state.history + ANSWER_NEED ≤ LIMIT }
         requires number { self.old.next + 1 < 2 ^ 32 }
         requires known { log_end desk.old.state.history ≤ redo.now.seen.end }
-        ensures along { OnOk result ((frames : Plain) → Along (senses D.page_size D.tells D.told D.space_pages D.fault_count) 1
+        ensures along { OnOk result ((frames : Plain) → Along D.seen 1
             desk.old.state desk.new.state frames frames redo.now.seen redo.now.seen (working self.old) (working self.new)) }
         ensures done { OnOk result ((o : Opening) (start : Start) (past : List Event)
-            → SoFar (senses D.page_size D.tells D.told D.space_pages D.fault_count) o start desk.old.state redo.now.seen (working self.old) past []
-            → Does (senses D.page_size D.tells D.told D.space_pages D.fault_count) o start desk.new.state redo.now.seen (working self.new) past Command.Checkpoint) }
+            → SoFar D.seen o start desk.old.state redo.now.seen (working self.old) past []
+            → Does D.seen o start desk.new.state redo.now.seen (working self.new) past Command.Checkpoint) }
     {
         let number = self.next;
         let by = Caller {
@@ -414,17 +415,17 @@ impl Worker {
         redo: &mut Redo<R>,
         command: &Command,
     ) -> Result<(), OutOfMemory>
-        requires places { desk.old.state.config.first + 2 * length desk.old.state.history + 4 < 2 ^ 48 }
+        requires places { desk.old.state.config.first + 2 * length desk.old.state.history + 16385 ≤ LIMIT }
         requires number { self.old.next + 1 < 2 ^ 32 }
-        requires ready { IsReady (senses D.page_size D.tells D.told D.space_pages D.fault_count) desk.old.state frames.old (reverse self.old.fixed.items) }
+        requires ready { IsReady D.seen desk.old.state frames.old (reverse self.old.fixed.items) }
         requires range { IsInRange desk.old.state.config.page command.now }
         requires known { log_end desk.old.state.history ≤ redo.old.seen.end }
-        ensures along { OnOk result (Along (senses D.page_size D.tells D.told D.space_pages D.fault_count) 1
+        ensures along { OnOk result (Along D.seen 1
             desk.old.state desk.new.state frames.old frames.new redo.old.seen redo.new.seen (working self.old) (working self.new)) }
         ensures done { OnOk result ((o : Opening) (start : Start) (past : List Event)
-            → SoFar (senses D.page_size D.tells D.told D.space_pages D.fault_count) o start desk.old.state redo.old.seen (working self.old) past []
-            → StandsBehind (senses D.page_size D.tells D.told D.space_pages D.fault_count) o start desk.old.state frames.old
-            → Does (senses D.page_size D.tells D.told D.space_pages D.fault_count) o start desk.new.state redo.new.seen (working self.new) past command.now) }
+            → SoFar D.seen o start desk.old.state redo.old.seen (working self.old) past []
+            → StandsBehind D.seen o start desk.old.state frames.old
+            → Does D.seen o start desk.new.state redo.new.seen (working self.new) past command.now) }
         ensures opening { redo.new.opening ≡ redo.old.opening }
     {
         match command {
@@ -454,17 +455,17 @@ impl Worker {
         redo: &mut Redo<R>,
         commands: &[Command],
     ) -> Result<(), OutOfMemory>
-        requires places { desk.old.state.config.first + 2 * length desk.old.state.history + 32770 * length commands.now < 2 ^ 48 }
+        requires places { desk.old.state.config.first + 2 * length desk.old.state.history + 32770 * length commands.now ≤ LIMIT }
         requires number { self.old.next + length commands.now < 2 ^ 32 }
-        requires ready { IsReady (senses D.page_size D.tells D.told D.space_pages D.fault_count) desk.old.state frames.old (reverse self.old.fixed.items) }
+        requires ready { IsReady D.seen desk.old.state frames.old (reverse self.old.fixed.items) }
         requires ranges { AllByRecursion (IsInRange desk.old.state.config.page) commands.now }
         requires known { log_end desk.old.state.history ≤ redo.old.seen.end }
-        ensures along { OnOk result (Along (senses D.page_size D.tells D.told D.space_pages D.fault_count) (length commands.now)
+        ensures along { OnOk result (Along D.seen (length commands.now)
             desk.old.state desk.new.state frames.old frames.new redo.old.seen redo.new.seen (working self.old) (working self.new)) }
         ensures done { OnOk result ((o : Opening) (start : Start) (past : List Event)
-            → SoFar (senses D.page_size D.tells D.told D.space_pages D.fault_count) o start desk.old.state redo.old.seen (working self.old) past []
-            → StandsBehind (senses D.page_size D.tells D.told D.space_pages D.fault_count) o start desk.old.state frames.old
-            → Progress (senses D.page_size D.tells D.told D.space_pages D.fault_count) o start desk.new.state redo.new.seen (working self.new) past commands.now []) }
+            → SoFar D.seen o start desk.old.state redo.old.seen (working self.old) past []
+            → StandsBehind D.seen o start desk.old.state frames.old
+            → Progress D.seen o start desk.new.state redo.new.seen (working self.new) past commands.now []) }
         ensures opening { redo.new.opening ≡ redo.old.opening }
     {
         for command in commands {
@@ -482,16 +483,16 @@ impl Worker {
         requires places { desk.now.state.config.first + length desk.now.state.history < 2 ^ 64 }
         requires number { self.old.next + 1 < 2 ^ 32 }
         requires some { 0 < length self.old.fixed.items }
-        requires ready { IsReady (senses D.page_size D.tells D.told D.space_pages D.fault_count) desk.now.state frames.old (reverse self.old.fixed.items) }
-        ensures ready { OnOk result (IsReady (senses D.page_size D.tells D.told D.space_pages D.fault_count) desk.now.state frames.new (reverse self.new.fixed.items)) }
-        ensures behind { OnOk result ((o : Opened) → IsBehindIt (senses D.page_size D.tells D.told D.space_pages D.fault_count) o desk.now.state frames.old
-            → IsBehindIt (senses D.page_size D.tells D.told D.space_pages D.fault_count) o desk.now.state frames.new) }
+        requires ready { IsReady D.seen desk.now.state frames.old (reverse self.old.fixed.items) }
+        ensures ready { OnOk result (IsReady D.seen desk.now.state frames.new (reverse self.new.fixed.items)) }
+        ensures behind { OnOk result ((o : Opened) → IsBehindIt D.seen o desk.now.state frames.old
+            → IsBehindIt D.seen o desk.now.state frames.new) }
         ensures fewer { OnOk result (length self.new.fixed.items + 1 ≡ length self.old.fixed.items) }
         ensures next { OnOk result (self.new.next ≡ self.old.next + 1) }
         ensures pass { OnOk result (self.new.pass ≡ self.old.pass) }
         ensures done { OnOk result ((o : Opening) (start : Start) (log : Seen) (past : List Event) (commands : List Command)
-            → Ending (senses D.page_size D.tells D.told D.space_pages D.fault_count) o start desk.now.state log (working self.old) past commands
-            → Ending (senses D.page_size D.tells D.told D.space_pages D.fault_count) o start desk.now.state log (working self.new) past commands) }
+            → Ending D.seen o start desk.now.state log (working self.old) past commands
+            → Ending D.seen o start desk.now.state log (working self.new) past commands) }
     {
         let place = desk.mark();
         let Some(held) = self.fixed.pop() else {
@@ -513,14 +514,14 @@ impl Worker {
     ) -> Result<(), OutOfMemory>
         requires places { desk.now.state.config.first + length desk.now.state.history < 2 ^ 64 }
         requires number { self.old.next + length self.old.fixed.items < 2 ^ 32 }
-        requires ready { IsReady (senses D.page_size D.tells D.told D.space_pages D.fault_count) desk.now.state frames.old (reverse self.old.fixed.items) }
-        ensures ready { OnOk result (IsReady (senses D.page_size D.tells D.told D.space_pages D.fault_count) desk.now.state frames.new []) }
-        ensures behind { OnOk result ((o : Opened) → IsBehindIt (senses D.page_size D.tells D.told D.space_pages D.fault_count) o desk.now.state frames.old
-            → IsBehindIt (senses D.page_size D.tells D.told D.space_pages D.fault_count) o desk.now.state frames.new) }
+        requires ready { IsReady D.seen desk.now.state frames.old (reverse self.old.fixed.items) }
+        ensures ready { OnOk result (IsReady D.seen desk.now.state frames.new []) }
+        ensures behind { OnOk result ((o : Opened) → IsBehindIt D.seen o desk.now.state frames.old
+            → IsBehindIt D.seen o desk.now.state frames.new) }
         ensures pass { OnOk result (self.new.pass ≡ self.old.pass) }
         ensures done { OnOk result ((o : Opening) (start : Start) (log : Seen) (past : List Event) (commands : List Command)
-            → Ending (senses D.page_size D.tells D.told D.space_pages D.fault_count) o start desk.now.state log (working self.old) past commands
-            → Worked (senses D.page_size D.tells D.told D.space_pages D.fault_count) o start desk.now.state log (working self.new) past commands) }
+            → Ending D.seen o start desk.now.state log (working self.old) past commands
+            → Worked D.seen o start desk.now.state log (working self.new) past commands) }
     {
         while !self.fixed.is_empty() {
             self.give_back(desk, frames)?;
@@ -537,25 +538,25 @@ impl Worker {
         redo: &mut Redo<R>,
         commands: &[Command],
     ) -> Result<(), OutOfMemory>
-        requires places { desk.old.state.config.first + 2 * length desk.old.state.history + 32770 * length commands.now < 2 ^ 48 }
+        requires places { desk.old.state.config.first + 2 * length desk.old.state.history + 32770 * length commands.now ≤ LIMIT }
         requires number { self.old.next + length commands.now + 64 < 2 ^ 32 }
         requires new { length self.old.fixed.items ≡ 0 }
-        requires ready { IsReady (senses D.page_size D.tells D.told D.space_pages D.fault_count) desk.old.state frames.old (reverse self.old.fixed.items) }
+        requires ready { IsReady D.seen desk.old.state frames.old (reverse self.old.fixed.items) }
         requires ranges { AllByRecursion (IsInRange desk.old.state.config.page) commands.now }
         requires known { log_end desk.old.state.history ≤ redo.old.seen.end }
-        ensures left { OnOk result (LeavesDesk D.page_size D.tells D.space_pages D.fault_count desk.old.state desk.new.state) }
+        ensures left { OnOk result (LeavesDesk D.seen desk.old.state desk.new.state) }
         ensures grown { OnOk result (length desk.new.state.history ≤ length desk.old.state.history + 16385 * length commands.now) }
-        ensures ready { OnOk result (IsReady (senses D.page_size D.tells D.told D.space_pages D.fault_count) desk.new.state frames.new []) }
-        ensures behind { OnOk result ((o : Opened) → IsBehindIt (senses D.page_size D.tells D.told D.space_pages D.fault_count) o desk.old.state frames.old
-            → IsBehindIt (senses D.page_size D.tells D.told D.space_pages D.fault_count) o desk.new.state frames.new) }
+        ensures ready { OnOk result (IsReady D.seen desk.new.state frames.new []) }
+        ensures behind { OnOk result ((o : Opened) → IsBehindIt D.seen o desk.old.state frames.old
+            → IsBehindIt D.seen o desk.new.state frames.new) }
         ensures log { OnOk result (IsLater redo.old.seen redo.new.seen) }
         ensures known { OnOk result (log_end desk.new.state.history ≤ redo.new.seen.end) }
         ensures opening { redo.new.opening ≡ redo.old.opening }
         ensures pass { OnOk result (self.new.pass ≡ self.old.pass) }
         ensures done { OnOk result ((o : Opening) (start : Start) (past : List Event)
-            → SoFar (senses D.page_size D.tells D.told D.space_pages D.fault_count) o start desk.old.state redo.old.seen (working self.old) past []
-            → StandsBehind (senses D.page_size D.tells D.told D.space_pages D.fault_count) o start desk.old.state frames.old
-            → Worked (senses D.page_size D.tells D.told D.space_pages D.fault_count) o start desk.new.state redo.new.seen (working self.new) past commands.now) }
+            → SoFar D.seen o start desk.old.state redo.old.seen (working self.old) past []
+            → StandsBehind D.seen o start desk.old.state frames.old
+            → Worked D.seen o start desk.new.state redo.new.seen (working self.new) past commands.now) }
     {
         self.do_all(alloc, desk, frames, redo, commands)?;
         self.give_back_all(desk, frames)

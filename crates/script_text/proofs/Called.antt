@@ -6,11 +6,11 @@ use Rattle.std.specs.Fmt.{decimal}
 use Rattle.std.proofs.lemmas.Option.{option_and_then_some}
 use Rattle.std.proofs.lemmas.Slice.Eq.{bytes_eq-Decides}
 use Rattle.std.proofs.lemmas.Bool.{and_parts}
-use Rattle.script_text.specs.Reading.{number_of}
+use Rattle.page_ids.specs.Numerals.{number_of}
 use Rattle.script_text.specs.CommandLine.{is_word, IsRun, IsCalled, run_of}
 use Rattle.script_text.specs.declared.program.Program.{Program}
 use Rattle.script_text.specs.declared.program.Program.TheVariants.{Run}
-use Rattle.script_text.proofs.Numbers.{number_of-decimal, number_is}
+use Rattle.page_ids.proofs.Numbers.{number_of-decimal, number_is}
 
 three_true : (a b c : Bool) → (a && b && c) ≡ true → (a ≡ true) × (b ≡ true) × (c ≡ true)
 three_true a b c e = let outer = and_parts (a && b) c e in let inner = and_parts a b outer.0 in (inner.0, inner.1, outer.1)

@@ -8,13 +8,15 @@ use Rattle.std.proofs.lemmas.Option.{option_and_then_some}
 use Rattle.std.proofs.lemmas.Slice.Eq.{bytes_eq-Decides}
 use Rattle.std.proofs.lemmas.List.Elements.{All-append, All-cons, All-from_recursion}
 use Rattle.std.proofs.lemmas.List.Splits.{join_with_byte-slice_split}
+use Rattle.page_ids.specs.Numerals.{number_of, cut_at}
 use Rattle.page_ids.specs.Spelling.{page_text, hex}
 use Rattle.page_ids.specs.declared.ids.PageId.{PageId}
 use Rattle.script_text.specs.Text.{command_words, item_words, setting_name, is_nothing, IsPageId, IsTyped, IsTypedItem, IsSpelled}
-use Rattle.script_text.specs.Reading.{number_of, cut_at, page_of, hex_of, keyword_text, found, keywords, keyword_of, one, two, three, fix_of, create_of, read_of, put_of, unfix_of, clean_of, checkpoint_of, thread_of, set_of, said_by, words_say, line_says}
-use Rattle.script_text.proofs.Numbers.{number_of-decimal, number_is}
+use Rattle.script_text.specs.Reading.{page_of, hex_of, keyword_text, found, keywords, keyword_of, one, two, three, fix_of, create_of, read_of, put_of, unfix_of, clean_of, checkpoint_of, thread_of, set_of, said_by, words_say, line_says}
+use Rattle.page_ids.proofs.Cuts.{Lacks, decimal_lacks, cut_here, cut_is}
+use Rattle.page_ids.proofs.Numbers.{number_of-decimal, number_is}
 use Rattle.script_text.proofs.Hex.{hex_read, hex_is, hex_lacks}
-use Rattle.script_text.proofs.Cuts.{Lacks, decimal_lacks, words_joined, cut_here, cut_is}
+use Rattle.script_text.proofs.Cuts.{words_joined}
 use Rattle.script_text.specs.declared.script.Command.{Command}
 use Rattle.script_text.specs.declared.script.Command.TheVariants.{Fix, Create, Read, Put, Unfix, Clean, Checkpoint}
 use Rattle.script_text.specs.declared.lines.Setting.{Setting}

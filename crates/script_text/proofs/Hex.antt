@@ -11,7 +11,7 @@ use Rattle.std.proofs.lemmas.Option.{option_and_then_some}
 use Rattle.page_ids.specs.Spelling.{hex}
 use Rattle.script_text.specs.Text.{AreBytes}
 use Rattle.script_text.specs.Reading.{hex_digit, byte_of, hex_of}
-use Rattle.script_text.proofs.Cuts.{Lacks}
+use Rattle.page_ids.proofs.Cuts.{Lacks}
 
 glyph_read : (d : ℕ) → d < 16 → hex_digit (digit_glyph false d) ≡ Some d
 glyph_read d small = grind (arith, nat_tests)

@@ -1,4 +1,3 @@
-pub mod Numbers
 pub mod Cuts
 pub mod Hex
 pub mod Exact

@@ -2,7 +2,8 @@
 use Rattle.std.specs.Prelude.{ℕ, Bool, false, List, [], ◌∷◌, ◌≡◌, ◌==◌, ◌<◌, ◌^◌, ◌&&◌, not, IsTrue, codes, Option, None, Some, if◌then◌else◌}
 use Rattle.std.specs.Str.{bytes_eq}
 use Rattle.std.specs.Fmt.{decimal}
-use Rattle.script_text.specs.Reading.{number_of, ◌>>=◌}
+use Rattle.page_ids.specs.Numerals.{number_of}
+use Rattle.script_text.specs.Reading.{◌>>=◌}
 use Rattle.script_text.specs.declared.program.Program.{Program}
 use Rattle.script_text.specs.declared.program.Program.TheVariants.{Run}
 

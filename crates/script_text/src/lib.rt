@@ -18,8 +18,3 @@ mod words;
 pub use program::{Name, Program, WordsErr, command_of};
 pub use reader::{ScriptErr, read_script};
 pub use script::{Command, Script};
-
-#[cfg(test)]
-mod clean_tests;
-#[cfg(test)]
-mod tests;

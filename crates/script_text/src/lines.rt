@@ -5,7 +5,8 @@ ghost use Rattle.script_text.specs.Text.{is_nothing};
 ghost use Rattle.script_text.specs.Reading.{keyword_of, set_of, thread_of, fix_of, create_of, read_of, put_of, unfix_of, clean_of, checkpoint_of, words_say, line_says};
 
 use crate::script::Command;
-use crate::words::{bytes, number, number_u32, page};
+use crate::words::{bytes, page};
+use page_ids::numerals::{number, number_u32};
 use std::alloc::{AllocError, Global};
 
 /// A number of the pool that a script may set.

@@ -2,7 +2,7 @@
 ghost use Rattle.std.specs.Prelude.{◌≡◌, ℕ, List, map, IfOk, MatchResult, Err, string_bytes};
 ghost use Rattle.script_text.specs.CommandLine.{is_word, IsRun, IsCalled, run_of};
 
-use crate::words::number_u32;
+use page_ids::numerals::number_u32;
 use std::alloc::{AllocError, Global};
 use std::marker::Model;
 

@@ -10,7 +10,7 @@ ghost use Rattle.script_text.specs.Left.{lines_left, left};
 use crate::draft::Draft;
 use crate::lines::item_of;
 use crate::script::Script;
-use crate::words::cut;
+use page_ids::numerals::cut;
 use std::alloc::{AllocError, Global};
 
 /// Why bytes are no script.

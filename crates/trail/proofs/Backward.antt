@@ -7,7 +7,7 @@ use Rattle.trail.specs.declared.event.Entry.{Entry}
 use Rattle.trail.specs.declared.event.Receipt.{Receipt}
 use Rattle.trail.specs.declared.event.Event.{Event}
 use Rattle.trail.specs.declared.event.Event.TheVariants as event
-use Rattle.trail.specs.Places.{mark, AreNumbered, AreWithin}
+use Rattle.trail.specs.Trails.{mark, AreNumbered, AreWithin}
 use Rattle.trail.specs.Merging.{lists, told, receipts_at, merged, AllWithin}
 use Rattle.trail.specs.Backward.{here, after, taken, rests, turned, backward}
 use Rattle.trail.proofs.Told.{append_none, reverse-cons, reverse-middle, other, the_same, told_at, told_push, below_within, none_told, Rises, last_place, rises_up, are_rising, merged_push}

@@ -14,7 +14,7 @@ use Rattle.trail.specs.History.{value, value_after}
 use Rattle.trail.specs.Dirt.{dirtied, cleaned, dirty, dirty_after, dirt_of, is_dirty}
 use Rattle.trail.specs.Saved.{saved, saved_after, is_written, written_after}
 
-same_self : (p : PageId) → same_page p p ≡ true
+pub same_self : (p : PageId) → same_page p p ≡ true
 same_self p = ap (λ (b : Bool). b && nat_eq p.page p.page) (eq-eqb p.space p.space refl) ∙ eq-eqb p.page p.page refl
 
 both : (a b : Bool) → (a && b) ≡ true → (a ≡ true) × (b ≡ true)

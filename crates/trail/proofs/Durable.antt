@@ -8,11 +8,13 @@ use Rattle.trail.specs.declared.event.Event.{Event}
 use Rattle.trail.specs.declared.event.Event.TheVariants as event
 use Rattle.trail.specs.declared.event.Kind.{Kind}
 use Rattle.trail.specs.declared.event.Kind.TheVariants as kind
-use Rattle.trail.specs.Covered.{IsCoveredKind, IsDurableKind, AreDurable}
+use Rattle.std.specs.Prelude.{IfSome}
+use Rattle.trail.specs.Covered.{IsCoveredWrite}
+use Rattle.trail.specs.Kinds.{write_in}
+use Rattle.trail.specs.Saved.{AreDurable}
 use Rattle.trail.specs.Dirt.{dirtied, cleaned, dirty, dirty_after, dirt_of, log_end, log_end_after}
-use Rattle.trail.specs.Laws.{IsGood}
-use Rattle.trail.specs.Opening.{Opening}
-use Rattle.trail.specs.Places.{entries}
+use Rattle.trail.specs.Laws.{AreLawful}
+use Rattle.trail.specs.Trails.{Opening, entries}
 use Rattle.trail.proofs.DirtyPages.{one_page, cleaned_other, dirtied_same, changed}
 
 -- the last change is durable, or its page is dirty with its end as the newest LSN
@@ -26,7 +28,7 @@ changed_newest q start end (Some d) = refl
 reaches_changed : (durable : ℕ) (ds : List Dirty) (q : PageId) (start end : ℕ) → Reaches durable (dirtied q start end ds) end
 reaches_changed durable ds q start end = inr (q, changed q start end (dirt_of ds q), dirtied_same q start end ds, changed_newest q start end (dirt_of ds q))
 
-reaches_written : (durable : ℕ) (h : List Entry) (end : ℕ) (q : PageId) (lsn upto : ℕ) → IsCoveredKind h (kind.Write q lsn upto) → upto ≤ durable → Reaches durable (dirty h) end → Reaches durable (cleaned q (dirty h)) end
+reaches_written : (durable : ℕ) (h : List Entry) (end : ℕ) (q : PageId) (lsn upto : ℕ) → IsCoveredWrite h q lsn upto → upto ≤ durable → Reaches durable (dirty h) end → Reaches durable (cleaned q (dirty h)) end
 reaches_written durable h end q lsn upto covered le (inl done) = inl done
 reaches_written durable h end q lsn upto covered le (inr (p, d, found, newest)) = cases (same_page q p) refl
   where
@@ -38,7 +40,7 @@ reaches_written durable h end q lsn upto covered le (inr (p, d, found, newest)) 
         inl (omega (arith, covered.newest, covered.logged, its, newest, le))
     cases false t = inr (p, d, cleaned_other q p (dirty h) t ∙ found, newest)
 
-reaches_after : (durable : ℕ) (h : List Entry) (end : ℕ) (k : Kind) → IsCoveredKind h k → IsDurableKind durable k → Reaches durable (dirty h) end → Reaches durable (dirty_after k (dirty h)) (log_end_after k end)
+reaches_after : (durable : ℕ) (h : List Entry) (end : ℕ) (k : Kind) → IfSome (write_in k) (λ w. IsCoveredWrite h w.page w.lsn w.upto) → IfSome (write_in k) (λ w. w.upto ≤ durable) → Reaches durable (dirty h) end → Reaches durable (dirty_after k (dirty h)) (log_end_after k end)
 reaches_after durable h end (kind.Load q f) covered le was = was
 reaches_after durable h end (kind.Fix q f clock now) covered le was = was
 reaches_after durable h end (kind.Create q f from to now) covered le was = reaches_changed durable (dirty h) q from to
@@ -60,7 +62,7 @@ reaches_after durable h end (kind.Unwatch q) covered le was = was
 reaches_after durable h end (kind.Dump pct ids) covered le was = was
 reaches_after durable h end (kind.Refused asked why) covered le was = was
 
-reaches : (o : Opening) (past : List Event) (durable : ℕ) → IsGood o past → AreDurable durable (entries past) → Reaches durable (dirty (entries past)) (log_end (entries past))
+reaches : (o : Opening) (past : List Event) (durable : ℕ) → AreLawful o past → AreDurable durable (entries past) → Reaches durable (dirty (entries past)) (log_end (entries past))
 reaches o [] durable good written = inl (omega arith)
 reaches o (event.Entry e ∷ past) durable good written = reaches_after durable (entries past) (log_end (entries past)) e.kind good.0.covered written.0 (reaches o past durable good.1 written.1)
 reaches o (event.Receipt r ∷ past) durable good written = reaches o past durable good.1 written
@@ -69,5 +71,5 @@ none_dirty : (durable : ℕ) (ds : List Dirty) (end : ℕ) → ds ≡ [] → Rea
 none_dirty durable ds end none (inl le) = le
 none_dirty durable ds end none (inr (p, d, found, newest)) = let bad : None ≡ Some d = sym (ap (λ (l : List Dirty). dirt_of l p) none) ∙ found in absurd (cc)
 
-pub clean_durable : (o : Opening) (past : List Event) (durable : ℕ) → IsGood o past → AreDurable durable (entries past) → dirty (entries past) ≡ [] → log_end (entries past) ≤ durable
+pub clean_durable : (o : Opening) (past : List Event) (durable : ℕ) → AreLawful o past → AreDurable durable (entries past) → dirty (entries past) ≡ [] → log_end (entries past) ≤ durable
 clean_durable o past durable good written none = none_dirty durable (dirty (entries past)) (log_end (entries past)) none (reaches o past durable good written)

@@ -13,6 +13,7 @@ pub mod KindWords
 pub mod NoteWords
 pub mod TrailWords
 pub mod DirtyPages
+pub mod LookUps
+pub mod Judging
 pub mod Durable
 pub mod RisingPages
-pub mod rows

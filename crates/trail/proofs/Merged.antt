@@ -4,7 +4,7 @@ use Rattle.trail.specs.declared.event.Entry.{Entry}
 use Rattle.trail.specs.declared.event.Receipt.{Receipt}
 use Rattle.trail.specs.declared.event.Event.{Event}
 use Rattle.trail.specs.declared.event.Event.TheVariants as event
-use Rattle.trail.specs.Places.{mark, AreNumbered, AreWithin, entries, receipts}
+use Rattle.trail.specs.Trails.{mark, AreNumbered, AreWithin, entries, receipts}
 use Rattle.trail.specs.Merging.{receipts_at, merged, IsPlaced}
 use Rattle.trail.proofs.Told.{append_none, reverse-cons, other, told_at, told_push, below_within, none_told, Rises, last_place, rises_up, are_rising, merged_push}
 

@@ -4,15 +4,15 @@ use Rattle.std.specs.Prelude.{⊤}
 use Rattle.page_ids.specs.Same.{same_page}
 use Rattle.page_ids.specs.declared.ids.PageId.{PageId}
 use Rattle.trail.specs.declared.event.Dirty.{Dirty}
+use Rattle.trail.specs.declared.event.Entry.{Entry}
 use Rattle.trail.specs.declared.event.Event.{Event}
 use Rattle.trail.specs.declared.event.Event.TheVariants as event
 use Rattle.trail.specs.declared.event.Kind.{Kind}
 use Rattle.trail.specs.declared.event.Kind.TheVariants as kind
-use Rattle.trail.specs.Places.{entries}
 use Rattle.trail.specs.Dirt.{dirtied, cleaned, dirty, dirty_after, log_end, log_end_after}
-use Rattle.trail.specs.Opening.{Opening}
+use Rattle.trail.specs.Trails.{Opening, entries, own}
 use Rattle.trail.specs.Legal.{IsLegalKind}
-use Rattle.trail.specs.Laws.{IsGood}
+use Rattle.trail.specs.Laws.{AreLawful}
 
 -- each of these changed first behind this LSN
 abbrev IsBehind : ℕ → List Dirty → Type 0
@@ -55,34 +55,34 @@ rising_cleaned end p (d ∷ ds) rising =
     by_test (IsRising end) (not (same_page d.page p)) (d ∷ cleaned p ds) (cleaned p ds)
     (rising.0, (rising.1.0, (behind_cleaned d.oldest p ds rising.1.1.0, rising_cleaned end p ds rising.1.1.1))) (rising_cleaned end p ds rising.1.1.1)
 
-rising_after : (o : Opening) (past : List Event) (c : ℕ) (k : Kind) → IsLegalKind o past c k → IsRising (log_end (entries past)) (dirty (entries past))
-    → IsRising (log_end_after k (log_end (entries past))) (dirty_after k (dirty (entries past)))
-rising_after o past c (kind.Load q f) legal rising = rising
-rising_after o past c (kind.Fix q f clock now) legal rising = rising
-rising_after o past c (kind.Create q f start end now) legal rising =
-    let longer : start < end = omega (arith, legal.record_is) in rising_dirtied (log_end (entries past)) q start end (dirty (entries past)) legal.behind longer rising
-rising_after o past c (kind.Put q at bytes start end) legal rising =
-    let longer : start < end = omega (arith, legal.record_is) in rising_dirtied (log_end (entries past)) q start end (dirty (entries past)) legal.behind longer rising
-rising_after o past c (kind.Evict q f passed) legal rising = rising
-rising_after o past c (kind.Write q lsn upto) legal rising = rising_cleaned (log_end (entries past)) q (dirty (entries past)) rising
-rising_after o past c (kind.Move q from to) legal rising = absurd legal
-rising_after o past c (kind.Withdraw from) legal rising = absurd legal
-rising_after o past c (kind.Undo from) legal rising = absurd legal
-rising_after o past c (kind.Shrink chunks) legal rising = absurd legal
-rising_after o past c (kind.Grow chunks) legal rising = absurd legal
-rising_after o past c (kind.Resize bytes chunks) legal rising = absurd legal
-rising_after o past c (kind.Clean written skipped) legal rising = rising
-rising_after o past c (kind.Check lsn) legal rising = rising
-rising_after o past c (kind.WatchSet q) legal rising = absurd legal
-rising_after o past c (kind.WatchAt q f) legal rising = absurd legal
-rising_after o past c (kind.Occurred q arrived) legal rising = absurd legal
-rising_after o past c (kind.Unwatch q) legal rising = absurd legal
-rising_after o past c (kind.Dump pct ids) legal rising = absurd legal
-rising_after o past c (kind.Refused asked why) legal rising = rising
+rising_after : (o : Opening) (h : List Entry) (mine : List Event) (c n : ℕ) (k : Kind) → IsLegalKind o h mine c n k → IsRising (log_end h) (dirty h)
+    → IsRising (log_end_after k (log_end h)) (dirty_after k (dirty h))
+rising_after o h mine c n (kind.Load q f) legal rising = rising
+rising_after o h mine c n (kind.Fix q f clock now) legal rising = rising
+rising_after o h mine c n (kind.Create q f start end now) legal rising =
+    let longer : start < end = omega (arith, legal.record_is) in rising_dirtied (log_end h) q start end (dirty h) legal.behind longer rising
+rising_after o h mine c n (kind.Put q at bytes start end) legal rising =
+    let longer : start < end = omega (arith, legal.record_is) in rising_dirtied (log_end h) q start end (dirty h) legal.behind longer rising
+rising_after o h mine c n (kind.Evict q f passed) legal rising = rising
+rising_after o h mine c n (kind.Write q lsn upto) legal rising = rising_cleaned (log_end h) q (dirty h) rising
+rising_after o h mine c n (kind.Move q from to) legal rising = rising
+rising_after o h mine c n (kind.Withdraw from) legal rising = rising
+rising_after o h mine c n (kind.Undo from) legal rising = rising
+rising_after o h mine c n (kind.Shrink chunks) legal rising = rising
+rising_after o h mine c n (kind.Grow chunks) legal rising = rising
+rising_after o h mine c n (kind.Resize bytes chunks) legal rising = rising
+rising_after o h mine c n (kind.Clean written skipped) legal rising = rising
+rising_after o h mine c n (kind.Check lsn) legal rising = rising
+rising_after o h mine c n (kind.WatchSet q) legal rising = rising
+rising_after o h mine c n (kind.WatchAt q f) legal rising = rising
+rising_after o h mine c n (kind.Occurred q arrived) legal rising = rising
+rising_after o h mine c n (kind.Unwatch q) legal rising = rising
+rising_after o h mine c n (kind.Dump pct ids) legal rising = rising
+rising_after o h mine c n (kind.Refused asked why) legal rising = rising
 
-rising : (o : Opening) (past : List Event) → IsGood o past → IsRising (log_end (entries past)) (dirty (entries past))
+rising : (o : Opening) (past : List Event) → AreLawful o past → IsRising (log_end (entries past)) (dirty (entries past))
 rising o [] good = tt
-rising o (event.Entry e ∷ past) good = rising_after o past e.caller e.kind good.0.legal.kind (rising o past good.1)
+rising o (event.Entry e ∷ past) good = rising_after o (entries past) (own e.caller past) e.caller e.number e.kind good.0.legal.kind (rising o past good.1)
 rising o (event.Receipt r ∷ past) good = rising o past good.1
 
 behind_found : (n : ℕ) (ds : List Dirty) (j : ℕ) (later : Dirty) → IsBehind n ds → slice_get ds j ≡ Some later → n < later.oldest
@@ -104,11 +104,11 @@ within_found end (x ∷ ds) zero d rises there = let e : x ≡ d = cc in subst (
 within_found end (x ∷ ds) (suc i) d rises there = within_found end ds i d rises.1.1.1 there
 
 -- of two dirty pages the one in front was changed first
-pub dirty_rise : (o : Opening) (past : List Event) (i j : ℕ) (d later : Dirty) → IsGood o past → i < j
+pub dirty_rise : (o : Opening) (past : List Event) (i j : ℕ) (d later : Dirty) → AreLawful o past → i < j
     → slice_get (dirty (entries past)) i ≡ Some d → slice_get (dirty (entries past)) j ≡ Some later → d.oldest < later.oldest
 dirty_rise o past i j d later good before one other = rising_found (log_end (entries past)) (dirty (entries past)) i j d later (rising o past good) before one other
 
 -- and the log ends at or behind the last change of each
-pub dirty_within : (o : Opening) (past : List Event) (i : ℕ) (d : Dirty) → IsGood o past → slice_get (dirty (entries past)) i ≡ Some d
+pub dirty_within : (o : Opening) (past : List Event) (i : ℕ) (d : Dirty) → AreLawful o past → slice_get (dirty (entries past)) i ≡ Some d
     → (d.oldest < d.newest) × (d.newest ≤ log_end (entries past))
 dirty_within o past i d good there = within_found (log_end (entries past)) (dirty (entries past)) i d (rising o past good) there

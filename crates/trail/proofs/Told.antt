@@ -6,7 +6,7 @@ use Rattle.trail.specs.declared.event.Entry.{Entry}
 use Rattle.trail.specs.declared.event.Receipt.{Receipt}
 use Rattle.trail.specs.declared.event.Event.{Event}
 use Rattle.trail.specs.declared.event.Event.TheVariants as event
-use Rattle.trail.specs.Places.{mark, AreNumbered, AreWithin}
+use Rattle.trail.specs.Trails.{mark, AreNumbered, AreWithin}
 use Rattle.trail.specs.Merging.{told, receipts_at, merged}
 
 pub append_none : {A : Type 0} → (xs : List A) → xs ++ [] ≡ xs

@@ -10,7 +10,7 @@ use Rattle.std.proofs.lemmas.List.Sums.{count_by-le-length}
 use Rattle.std.proofs.lemmas.List.Splits.{slice_split_at}
 use Rattle.trail.specs.declared.event.Event.{Event}
 use Rattle.trail.specs.declared.event.Event.TheVariants as event
-use Rattle.trail.specs.Events.{Events}
+use Rattle.trail.specs.Trails.{Events}
 use Rattle.trail.specs.Spelling.{event_text, lines_text, trail_text, is_entry, stamp_text}
 use Rattle.trail.specs.Typed.{EventFits, AllFit, Opens, TrailFits}
 use Rattle.trail.proofs.Visible.{AreVisible, visible, visible-append, small_visible, number_visible}

@@ -1,9 +1,7 @@
--- Found words where nobody else is there: they are exactly what the trail says.
-use Rattle.std.specs.Prelude.{ℕ, Bool, true, false, List, [], ◌∷◌, ◌≡◌, ◌==◌, ◌⊎◌, Option, None, Some, count_by, ⊤, if◌then◌else◌}
-use Rattle.page_ids.specs.FrameWord.{fixes_of, is_latched, is_resident, clock_of}
-use Rattle.page_ids.specs.Same.{same_page}
-use Rattle.page_ids.specs.declared.frame_word.Word.{Word}
-use Rattle.page_ids.specs.declared.ids.PageId.{PageId}
+-- Found words where nobody else is there: they are just what the trail says.
+use Rattle.std.specs.Prelude.{ℕ, Bool, true, false, List, [], ◌∷◌, ◌≡◌, ◌==◌, ◌&&◌, Option, None, Some, IfSome, ⊤, if◌then◌else◌}
+use Rattle.std.specs.List.{list_all}
+use Rattle.std.specs.Option.{option_map_or}
 use Rattle.trail.specs.declared.event.Call.{Call}
 use Rattle.trail.specs.declared.event.Call.TheVariants as call
 use Rattle.trail.specs.declared.event.Cause.{Cause}
@@ -11,88 +9,25 @@ use Rattle.trail.specs.declared.event.Cause.TheVariants as cause
 use Rattle.trail.specs.declared.event.Held.{Held}
 use Rattle.trail.specs.declared.event.Kind.{Kind}
 use Rattle.trail.specs.declared.event.Kind.TheVariants as kind
+use Rattle.trail.specs.declared.event.Note.{Note}
+use Rattle.trail.specs.declared.event.Note.TheVariants as note
 use Rattle.trail.specs.declared.event.Entry.{Entry}
 use Rattle.trail.specs.declared.event.Event.{Event}
 use Rattle.trail.specs.declared.event.Event.TheVariants as event
-use Rattle.trail.specs.Places.{entries}
-use Rattle.trail.specs.History.{home, change}
-use Rattle.trail.specs.Calls.{caller_of, number_of, held_by}
+use Rattle.trail.specs.Trails.{caller_of, number_of, entries, own}
+use Rattle.trail.specs.History.{tenant}
+use Rattle.trail.specs.Words.{Hint, hint_of, cause_words, cause_tag, words_told, AreTrueWords}
+use Rattle.trail.specs.Calls.{open_fixes}
 
--- the words that a cause has, each with its frame
-abbrev pub cause_words : Cause → List (ℕ × Word)
-cause_words (cause.PlacesSpent mark need) = []
-cause_words (cause.NoSuchPage pages) = []
-cause_words (cause.HoldFull held) = []
-cause_words (cause.Resident f) = []
-cause_words (cause.AllFixed seen) = seen
-cause_words (cause.RedoFault before after) = []
-cause_words (cause.DiskFault before after) = []
-cause_words (cause.BadPage bad) = []
-cause_words (cause.LogSpent end) = []
-cause_words (cause.WatchFull watches) = []
-cause_words cause.NoWatch = []
-cause_words cause.TooSmall = []
-cause_words (cause.TooLarge chunks max) = []
-cause_words (cause.Withdrawing from) = []
-cause_words (cause.Undone seen) = seen
-cause_words (cause.NoFrame frames) = []
-cause_words (cause.Stale found) = []
-cause_words (cause.OtherPage found) = []
-cause_words (cause.Latched found) = []
-cause_words (cause.Busy found) = []
-cause_words cause.Unheld = []
+-- somebody else had latched the frame
+abbrev pub is_busy : Cause → Bool
+is_busy (cause.Latched found) = true
+is_busy (cause.Busy found) = true
+is_busy _ = false
 
--- the words that an entry has, each with its frame
-abbrev pub words_told : Kind → List (ℕ × Word)
-words_told (kind.Load p f) = []
-words_told (kind.Fix p f clock now) = []
-words_told (kind.Create p f start end now) = []
-words_told (kind.Put p at bytes start end) = []
-words_told (kind.Evict p f passed) = passed
-words_told (kind.Write p lsn upto) = []
-words_told (kind.Move p from to) = []
-words_told (kind.Withdraw from) = []
-words_told (kind.Undo from) = []
-words_told (kind.Shrink chunks) = []
-words_told (kind.Grow chunks) = []
-words_told (kind.Resize bytes chunks) = []
-words_told (kind.Clean written skipped) = skipped
-words_told (kind.Check lsn) = []
-words_told (kind.WatchSet p) = []
-words_told (kind.WatchAt p f) = []
-words_told (kind.Occurred p arrived) = []
-words_told (kind.Unwatch p) = []
-words_told (kind.Dump pct ids) = []
-words_told (kind.Refused asked why) = cause_words why
-
--- how many of the fixes are of the page
-abbrev pub fixes_on : List Held → PageId → ℕ
-fixes_on held p = count_by (λ (x : Held). same_page x.page p) held
-
--- The word is the frame's: it is resident exactly where a page is at home there, has the clock of the frame's last change and just the
--- fixes that are open for the page, and is not latched.
-pub record IsExact (h : List Entry) (held : List Held) (f : ℕ) (w : Word) : Type 0 where
-  pub housed : (p : PageId) → home h p ≡ Some f → (is_resident w ≡ true) × (fixes_of w ≡ fixes_on held p)
-  pub vacant : ((p : PageId) → home h p ≡ Some f → ⊥) → (is_resident w ≡ false) × (fixes_of w ≡ 0)
-  pub clock : clock_of w ≡ change h f
-  pub unlatched : is_latched w ≡ false
-
-abbrev pub AreExactWords : List Entry → List Held → List (ℕ × Word) → Type 0
-AreExactWords h held [] = ⊤
-AreExactWords h held (x ∷ xs) = IsExact h held x.0 x.1 × AreExactWords h held xs
-
-abbrev pub IsExactEvent : List Event → ℕ → Event → Type 0
-IsExactEvent past c (event.Entry e) = AreExactWords (entries past) (held_by past c) (words_told e.kind)
-IsExactEvent past c (event.Receipt r) = ⊤
-
--- each event's words are exact, where the caller's are all fixes that are open; the newest event stands first
-abbrev pub AreExact : ℕ → List Event → Type 0
-AreExact c [] = ⊤
-AreExact c (e ∷ past) = IsExactEvent past c e × AreExact c past
-
-abbrev pub is_clean : Call → Bool
-is_clean (call.Clean bound) = true
-is_clean _ = false
+abbrev pub is_clean_call : Call → Bool
+is_clean_call (call.Clean bound) = true
+is_clean_call _ = false
 
 abbrev pub is_spent : Cause → Bool
 is_spent (cause.PlacesSpent mark need) = true
@@ -101,7 +36,7 @@ is_spent _ = false
 -- whether the entry answers a clean that got so far as to begin
 abbrev pub ends_clean : Kind → Bool
 ends_clean (kind.Clean written skipped) = true
-ends_clean (kind.Refused asked why) = if is_spent why then false else is_clean asked
+ends_clean (kind.Refused asked why) = if is_spent why then false else is_clean_call asked
 ends_clean _ = false
 
 abbrev pub closes : Event → Bool
@@ -113,7 +48,50 @@ abbrev pub closing_number : List Event → Option ℕ
 closing_number [] = None
 closing_number (e ∷ past) = if caller_of e == 0 then (if closes e then Some (number_of e) else None) else closing_number past
 
--- each event is this caller's or one of the closing flush
-abbrev pub AreOnlyOf : ℕ → Option ℕ → List Event → Type 0
-AreOnlyOf c closing [] = ⊤
-AreOnlyOf c closing (e ∷ past) = ((caller_of e ≡ c) ⊎ ((caller_of e ≡ 0) × (closing ≡ Some (number_of e)))) × AreOnlyOf c closing past
+-- whether the event is of the closing flush
+abbrev pub is_of_flush : Option ℕ → Event → Bool
+is_of_flush closing e = (caller_of e == 0) && option_map_or (λ n. n == number_of e) closing false
+
+-- who has the other events
+abbrev pub other_callers : Option ℕ → List Event → List ℕ
+other_callers closing [] = []
+other_callers closing (e ∷ past) = if is_of_flush closing e then other_callers closing past else caller_of e ∷ other_callers closing past
+
+-- the one caller among these; the runner, caller 0, where there is none
+abbrev pub only_caller : List ℕ → Option ℕ
+only_caller [] = Some 0
+only_caller (c ∷ cs) = if list_all (λ d. d == c) cs then Some c else None
+
+-- the one caller that made all calls of a whole trail but the closing flush
+abbrev pub sole_caller : List Event → Option ℕ
+sole_caller past = only_caller (other_callers (closing_number past) past)
+
+-- What a refusal tells of words and of a page is just what the history says, where these are all open fixes; nobody was there to make a frame busy.
+pub record IsTrueRefusal (h : List Entry) (held : List Held) (asked : Call) (why : Cause) : Type 0 where
+  pub words : AreTrueWords h held (cause_words asked why)
+  pub tag : IfSome (hint_of asked) (λ (hint : Hint). IfSome (cause_tag why) (λ p. tenant h hint.frame ≡ Some p))
+  pub free : is_busy why ≡ false
+
+abbrev pub IsTrueKind : List Entry → List Held → Kind → Type 0
+IsTrueKind h held (kind.Refused asked why) = IsTrueRefusal h held asked why
+IsTrueKind h held k = AreTrueWords h held (words_told k)
+
+abbrev pub IsTrueNote : List Entry → List Held → Note → Type 0
+IsTrueNote h held (note.Refused asked why) = IsTrueRefusal h held asked why
+IsTrueNote h held n = ⊤
+
+-- an event of the sole caller; the closing flush of another caller tells no words
+abbrev pub IsTrueBy : Bool → List Entry → List Event → Event → Type 0
+IsTrueBy true h mine (event.Entry e) = IsTrueKind h (open_fixes mine) e.kind
+IsTrueBy true h mine (event.Receipt r) = IsTrueNote h (open_fixes mine) r.note
+IsTrueBy false h mine (event.Entry e) = words_told e.kind ≡ []
+IsTrueBy false h mine (event.Receipt r) = ⊤
+
+-- at each event, where there is a sole caller
+abbrev pub IsTrueEvent : Option ℕ → List Entry → List Event → Event → Type 0
+IsTrueEvent sole h mine e = IfSome sole (λ c. IsTrueBy (caller_of e == c) h mine e)
+
+-- and so at each event of a trail
+abbrev pub AreTrue : Option ℕ → List Event → Type 0
+AreTrue sole [] = ⊤
+AreTrue sole (e ∷ past) = IsTrueEvent sole (entries past) (own (caller_of e) past) e × AreTrue sole past

@@ -1,6 +1,7 @@
 -- The book of an instance's frames: the chunks, those being withdrawn, the free frames, the withdrawn ones, and the frame in hand.
 -- It is read from the history, the newest entry first.
 use Rattle.std.specs.Prelude.{ℕ, Bool, true, false, not, List, [], ◌∷◌, ◌++◌, ◌==◌, ◌&&◌, ◌-◌, ◌*◌, Option, None, Some, filter, if◌then◌else◌, nat_le}
+use Rattle.std.specs.List.{list_any}
 use Rattle.std.specs.Option.{option_map_or}
 use Rattle.page_ids.specs.Chunks.{chunks_of, rising}
 use Rattle.page_ids.specs.declared.config.Config.{Config}
@@ -18,13 +19,18 @@ pub record Area : Type 0 where
   pub caller : ℕ
   pub number : ℕ
 
+-- the frame of a victim that its call has not used yet
+pub record Hand : Type 0 where
+  pub frame : ℕ
+  pub caller : ℕ
+  pub number : ℕ
+
 pub record Book : Type 0 where
   pub chunks : ℕ
   pub area : Option Area
   pub free : List ℕ
   pub withdrawn : List ℕ
-  -- the frame of a victim that its call has not used yet
-  pub hand : Option ℕ
+  pub hand : Option Hand
 
 abbrev pub without : ℕ → List ℕ → List ℕ
 without f [] = []
@@ -34,16 +40,25 @@ abbrev pub front : List ℕ → Option ℕ
 front [] = None
 front (f ∷ fs) = Some f
 
--- the frame that a call takes: that of its victim, or else the front of the free list
-abbrev pub next_frame : Book → Option ℕ
-next_frame b = option_map_or (λ f. Some f) b.hand (front b.free)
+-- the next frame to be taken: that of a victim, or else the front of the free list
+abbrev pub frame_in_turn : Book → Option ℕ
+frame_in_turn b = option_map_or (λ (x : Hand). Some x.frame) b.hand (front b.free)
+
+-- whether the frame in hand is this call's
+abbrev pub is_holder : ℕ → ℕ → Hand → Bool
+is_holder c n x = (x.caller == c) && (x.number == n)
+
+-- the frame that a call takes: that of its own victim, or else the front of the free list
+abbrev pub next_frame : Book → ℕ → ℕ → Option ℕ
+next_frame b c n = option_map_or (λ (x : Hand). if is_holder c n x then Some x.frame else front b.free) b.hand (front b.free)
 
 -- whether the frame lies in the chunks being withdrawn, with so many frames in a chunk
 abbrev pub is_inside : ℕ → Book → ℕ → Bool
 is_inside per b f = option_map_or (λ (a : Area). nat_le (a.from * per) f) b.area false
 
-abbrev pub is_owner : Book → Entry → Bool
-is_owner b e = option_map_or (λ (a : Area). (a.caller == e.caller) && (a.number == e.number)) b.area false
+-- whether the call is withdrawing the chunks
+abbrev pub is_owner : Book → ℕ → ℕ → Bool
+is_owner b c n = option_map_or (λ (a : Area). (a.caller == c) && (a.number == n)) b.area false
 
 abbrev pub use_frame : ℕ → Book → Book
 use_frame f b = record b { free = without f b.free; hand = None }
@@ -54,7 +69,7 @@ give per f b = let used = use_frame f b in if is_inside per b f then record used
 
 -- a call that was refused behind its frame gives back the frame that it took, or would have taken
 abbrev pub give_next : ℕ → Book → Book
-give_next per b = option_map_or (λ f. give per f b) (next_frame b) b
+give_next per b = option_map_or (λ f. give per f b) (frame_in_turn b) b
 
 -- whether this refusal may come behind the call's frame
 abbrev pub is_late : Call → Cause → Bool
@@ -76,7 +91,7 @@ book_after per e (kind.Load p f) b = use_frame f b
 book_after per e (kind.Fix p f clock now) b = b
 book_after per e (kind.Create p f start end now) b = use_frame f b
 book_after per e (kind.Put p at bytes start end) b = b
-book_after per e (kind.Evict p f passed) b = if is_owner b e then give per f b else record b { hand = Some f }
+book_after per e (kind.Evict p f passed) b = if is_owner b e.caller e.number then give per f b else record b { hand = Some (record { frame = f; caller = e.caller; number = e.number }) }
 book_after per e (kind.Write p lsn upto) b = b
 book_after per e (kind.Move p from to) b = record b { free = without to b.free; withdrawn = b.withdrawn ++ from ∷ [] }
 book_after per e (kind.Withdraw from) b = withdraw (record { from = from; caller = e.caller; number = e.number }) per b
@@ -100,3 +115,14 @@ book_at_start c = record { chunks = chunks_of c; area = None; free = rising 0 (c
 abbrev pub book : Config → List Entry → Book
 book c [] = book_at_start c
 book c (e ∷ h) = book_after c.frames e e.kind (book c h)
+
+abbrev pub is_in : ℕ → List ℕ → Bool
+is_in f fs = list_any (λ g. g == f) fs
+
+-- the frames of the chunks, rising, without those that are withdrawn
+abbrev pub frames_there : ℕ → Book → List ℕ
+frames_there per b = filter (λ f. not (is_in f b.withdrawn)) (rising 0 (b.chunks * per))
+
+-- the frames of the chunks that are being withdrawn, rising
+abbrev pub area_frames : ℕ → Book → List ℕ
+area_frames per b = option_map_or (λ (a : Area). rising (a.from * per) ((b.chunks - a.from) * per)) b.area []

@@ -1,5 +1,6 @@
--- What a trail so far, the newest event first, says of the calls of a caller. Events of other callers are skipped at the first test.
-use Rattle.std.specs.Prelude.{ℕ, Bool, true, false, List, [], ◌∷◌, ◌==◌, ◌+◌, Option, None, Some, length, if◌then◌else◌}
+-- What a caller's own events say of its calls. The newest event stands first.
+use Rattle.std.specs.Prelude.{ℕ, Bool, true, false, List, [], ◌∷◌, ◌==◌, ◌&&◌, ◌||◌, Option, None, Some, length, if◌then◌else◌}
+use Rattle.std.specs.Option.{option_map_or}
 use Rattle.page_ids.specs.Same.{same_page}
 use Rattle.page_ids.specs.declared.ids.PageId.{PageId}
 use Rattle.trail.specs.declared.event.Call.{Call}
@@ -9,103 +10,78 @@ use Rattle.trail.specs.declared.event.Kind.TheVariants as kind
 use Rattle.trail.specs.declared.event.Note.{Note}
 use Rattle.trail.specs.declared.event.Note.TheVariants as note
 use Rattle.trail.specs.declared.event.Held.{Held}
+use Rattle.trail.specs.declared.event.Entry.{Entry}
 use Rattle.trail.specs.declared.event.Event.{Event}
 use Rattle.trail.specs.declared.event.Event.TheVariants as event
+use Rattle.trail.specs.Trails.{number_of, own, most, before}
+use Rattle.trail.specs.Kinds.{Placing, kind_answers, grant_in}
 
-abbrev pub caller_of : Event → ℕ
-caller_of (event.Entry e) = e.caller
-caller_of (event.Receipt r) = r.caller
-
-abbrev pub number_of : Event → ℕ
-number_of (event.Entry e) = e.number
-number_of (event.Receipt r) = r.number
-
--- Whether the entry is the answer of its call. What a call does before it is answered comes as entries of its own.
-abbrev pub kind_answers : Kind → Bool
-kind_answers (kind.Load p f) = false
-kind_answers (kind.Fix p f clock now) = true
-kind_answers (kind.Create p f start end now) = true
-kind_answers (kind.Put p at bytes start end) = true
-kind_answers (kind.Evict p f passed) = false
-kind_answers (kind.Write p lsn upto) = false
-kind_answers (kind.Move p from to) = false
-kind_answers (kind.Withdraw from) = false
-kind_answers (kind.Undo from) = false
-kind_answers (kind.Shrink chunks) = false
-kind_answers (kind.Grow chunks) = false
-kind_answers (kind.Resize bytes chunks) = true
-kind_answers (kind.Clean written skipped) = true
-kind_answers (kind.Check lsn) = true
-kind_answers (kind.WatchSet p) = true
-kind_answers (kind.WatchAt p f) = true
-kind_answers (kind.Occurred p arrived) = true
-kind_answers (kind.Unwatch p) = true
-kind_answers (kind.Dump pct ids) = true
-kind_answers (kind.Refused asked why) = true
-
--- a receipt always is one
+-- a receipt always is an answer
 abbrev pub is_answer : Event → Bool
 is_answer (event.Entry e) = kind_answers e.kind
 is_answer (event.Receipt r) = true
 
--- the number that the caller's next event has: that of the call under way, or the next one
-abbrev pub next_number : List Event → ℕ → ℕ
-next_number [] c = 1
-next_number (e ∷ past) c = if caller_of e == c then (if is_answer e then number_of e + 1 else number_of e) else next_number past c
+-- how many calls were begun: they are numbered from 1
+abbrev pub calls_of : List Event → ℕ
+calls_of [] = 0
+calls_of (e ∷ mine) = most (number_of e) (calls_of mine)
 
--- the kinds of the entries so far of the caller's call under way, the newest first
-abbrev pub under_way : List Event → ℕ → List Kind
-under_way [] c = []
-under_way (event.Entry e ∷ past) c = if e.caller == c then (if kind_answers e.kind then [] else e.kind ∷ under_way past c) else under_way past c
-under_way (event.Receipt r ∷ past) c = if r.caller == c then [] else under_way past c
+-- the entries of a call
+abbrev pub made : ℕ → List Event → List Entry
+made n [] = []
+made n (event.Entry e ∷ mine) = if e.number == n then e ∷ made n mine else made n mine
+made n (event.Receipt r ∷ mine) = made n mine
+
+-- whether the call has its answer
+abbrev pub is_answered : ℕ → List Event → Bool
+is_answered n [] = false
+is_answered n (e ∷ mine) = ((number_of e == n) && is_answer e) || is_answered n mine
+
+-- the first of a call's entries
+abbrev pub first_made : List Entry → Option Entry
+first_made [] = None
+first_made (e ∷ []) = Some e
+first_made (e ∷ d ∷ made) = first_made (d ∷ made)
+
+-- the history before a call that made these entries
+abbrev pub before_call : List Entry → List Entry → List Entry
+before_call made h = option_map_or (λ (e : Entry). before e.place h) (first_made made) h
 
 -- a fix is open from the entry or receipt that grants it ..
 abbrev pub held_after_kind : ℕ → Kind → List Held → List Held
-held_after_kind n (kind.Load p f) before = before
-held_after_kind n (kind.Fix p f clock now) before = record { page = p; frame = f; number = n } ∷ before
-held_after_kind n (kind.Create p f start end now) before = record { page = p; frame = f; number = n } ∷ before
-held_after_kind n (kind.Put p at bytes start end) before = before
-held_after_kind n (kind.Evict p f passed) before = before
-held_after_kind n (kind.Write p lsn upto) before = before
-held_after_kind n (kind.Move p from to) before = before
-held_after_kind n (kind.Withdraw from) before = before
-held_after_kind n (kind.Undo from) before = before
-held_after_kind n (kind.Shrink chunks) before = before
-held_after_kind n (kind.Grow chunks) before = before
-held_after_kind n (kind.Resize bytes chunks) before = before
-held_after_kind n (kind.Clean written skipped) before = before
-held_after_kind n (kind.Check lsn) before = before
-held_after_kind n (kind.WatchSet p) before = before
-held_after_kind n (kind.WatchAt p f) before = before
-held_after_kind n (kind.Occurred p arrived) before = before
-held_after_kind n (kind.Unwatch p) before = before
-held_after_kind n (kind.Dump pct ids) before = before
-held_after_kind n (kind.Refused asked why) before = before
+held_after_kind n k held = option_map_or (λ (g : Placing). record { page = g.page; frame = g.frame; number = n } ∷ held) (grant_in k) held
 
 -- without the fix that this call got
 abbrev pub given_back : ℕ → List Held → List Held
 given_back n [] = []
-given_back n (held ∷ more) = if held.number == n then more else held ∷ given_back n more
+given_back n (x ∷ held) = if x.number == n then held else x ∷ given_back n held
 
 -- .. to the receipt that gives it back
 abbrev pub held_after_note : ℕ → Note → List Held → List Held
-held_after_note n (note.Granted p f clock) before = record { page = p; frame = f; number = n } ∷ before
-held_after_note n (note.Copied p at bytes clock) before = before
-held_after_note n (note.Unfixed p f fix) before = given_back fix before
-held_after_note n (note.Refused asked why) before = before
+held_after_note n (note.Granted p f clock) held = record { page = p; frame = f; number = n } ∷ held
+held_after_note n (note.Copied p at bytes clock) held = held
+held_after_note n (note.Unfixed p f fix) held = given_back fix held
+held_after_note n (note.Refused asked why) held = held
 
--- the caller's open fixes, the newest first
+abbrev pub held_after : Event → List Held → List Held
+held_after (event.Entry e) held = held_after_kind e.number e.kind held
+held_after (event.Receipt r) held = held_after_note r.number r.note held
+
+-- the open fixes, the newest first
+abbrev pub open_fixes : List Event → List Held
+open_fixes [] = []
+open_fixes (e ∷ mine) = held_after e (open_fixes mine)
+
+-- those of one caller among all events
 abbrev pub held_by : List Event → ℕ → List Held
-held_by [] c = []
-held_by (event.Entry e ∷ past) c = if e.caller == c then held_after_kind e.number e.kind (held_by past c) else held_by past c
-held_by (event.Receipt r ∷ past) c = if r.caller == c then held_after_note r.number r.note (held_by past c) else held_by past c
+held_by past c = open_fixes (own c past)
 
 -- the newest of them of a page
-abbrev pub newest_of : List Held → PageId → Option Held
-newest_of [] p = None
-newest_of (held ∷ more) p = if same_page held.page p then Some held else newest_of more p
+abbrev pub newest_fix : List Held → PageId → Option Held
+newest_fix [] p = None
+newest_fix (x ∷ held) p = if same_page x.page p then Some x else newest_fix held p
 
--- the call that an entry grants; a bound and a number of rounds, which no entry carries, decide none of its causes
+-- the call that an entry grants; a number of rounds, which no entry carries, decides none of its causes
 abbrev pub granted_call : Kind → Option Call
 granted_call (kind.Load p f) = None
 granted_call (kind.Fix p f clock now) = Some (call.Fix p now)

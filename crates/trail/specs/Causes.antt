@@ -1,10 +1,17 @@
--- Why calls are refused. The state is that before the event.
-use Rattle.std.specs.Prelude.{ℕ, Bool, true, false, List, ◌≡◌, ◌≢◌, ◌==◌, ◌≤◌, ◌<◌, ◌+◌, ◌^◌, length, Option, None, Some, IfSome, IsSomeAnd, is_none, nat_le, if◌then◌else◌}
+-- Why calls are refused. The state is that before the event; `mine` are the caller's own events.
+use Rattle.std.specs.Prelude.{ℕ, Bool, true, false, List, [], ◌∷◌, ◌≡◌, ◌≢◌, ◌==◌, ◌&&◌, ◌≤◌, ◌<◌, ◌+◌, ◌*◌, ◌⊎◌, length, Option, None, Some, IfSome, IsSomeAnd, IsTrue, is_none, nat_le, nat_lt, if◌then◌else◌}
+use Rattle.std.specs.List.{AllByRecursion}
 use Rattle.std.specs.Option.{option_or, option_map}
+use Rattle.page_ids.specs.Chunks.{chunks_for}
 use Rattle.page_ids.specs.Faults.{Rose}
+use Rattle.page_ids.specs.FrameWord.{is_latched, is_resident, clock_of}
+use Rattle.page_ids.specs.Same.{same_page}
 use Rattle.page_ids.specs.declared.ids.PageId.{PageId}
+use Rattle.page_ids.specs.declared.config.Config.{Config}
+use Rattle.page_ids.specs.declared.frame_word.Word.{Word}
 use Rattle.page_ids.specs.declared.layout.BadPage.{BadPage}
 use Rattle.page_ids.specs.declared.layout.BadPage.TheVariants as bad
+use Rattle.page_ids.specs.declared.limits.TheConstants.{LAST_LSN, LIMIT, MOST_FIXES, MOST_WATCHES, RECORD_BYTES}
 use Rattle.trail.specs.declared.event.Call.{Call}
 use Rattle.trail.specs.declared.event.Call.TheVariants as call
 use Rattle.trail.specs.declared.event.Cause.{Cause}
@@ -16,11 +23,16 @@ use Rattle.trail.specs.declared.event.Note.TheVariants as note
 use Rattle.trail.specs.declared.event.Entry.{Entry}
 use Rattle.trail.specs.declared.event.Event.{Event}
 use Rattle.trail.specs.declared.event.Event.TheVariants as event
-use Rattle.trail.specs.Places.{entries}
+use Rattle.trail.specs.Trails.{Opening, mark, before}
 use Rattle.trail.specs.History.{home, disk_faults, log_faults}
-use Rattle.trail.specs.Dirt.{log_end}
-use Rattle.trail.specs.Calls.{held_by, newest_of, granted_call, noted_call}
-use Rattle.trail.specs.Opening.{Opening}
+use Rattle.trail.specs.Book.{Area, book, area_frames, is_in}
+use Rattle.trail.specs.Dirt.{told_end}
+use Rattle.trail.specs.Watches.{watch_of, other_watches}
+use Rattle.trail.specs.Words.{Hint, hint_of, IsOfFixed}
+use Rattle.trail.specs.Calls.{made, before_call, open_fixes, newest_fix, granted_call, noted_call}
+use Rattle.trail.specs.Preceding.{is_undo}
+use Rattle.trail.specs.Spaces.{IsInside, IsOutside, sought_page}
+use Rattle.trail.specs.Needs.{HasPlaces, need_of, others_area}
 use Rattle.trail.specs.Victim.{AreAllFixed}
 
 -- Some causes are exact: a call is refused with one exactly where it holds and none before it does. The others come only where they hold.
@@ -47,37 +59,52 @@ is_exact (cause.Latched found) = false
 is_exact (cause.Busy found) = false
 is_exact cause.Unheld = true
 
--- the page lies behind the last page of its space
-abbrev pub outside : Opening → PageId → Option Cause
-outside o p = if nat_le (o.pages p.space) p.page then Some (cause.NoSuchPage (o.pages p.space)) else None
-
 -- the caller has no open fix of the page
-abbrev pub not_held : List Event → ℕ → PageId → Option Cause
-not_held past c p = if is_none (newest_of (held_by past c) p) then Some cause.Unheld else None
+abbrev pub unheld_cause : List Event → PageId → Option Cause
+unheld_cause mine p = if is_none (newest_fix (open_fixes mine) p) then Some cause.Unheld else None
 
 -- the caller has as many open fixes as a pass may have in an instance
-abbrev pub hold_full : List Event → ℕ → Option Cause
-hold_full past c = if length (held_by past c) == 64 then Some (cause.HoldFull 64) else None
+abbrev pub full_cause : List Event → Option Cause
+full_cause mine = if length (open_fixes mine) == MOST_FIXES then Some (cause.HoldFull MOST_FIXES) else None
 
 -- the page has a home
-abbrev pub resident : List Entry → PageId → Option Cause
-resident h p = option_map (λ f. cause.Resident f) (home h p)
+abbrev pub resident_cause : List Entry → PageId → Option Cause
+resident_cause h p = option_map (λ f. cause.Resident f) (home h p)
 
--- The first exact cause that holds of a call of the caller; the calls that are not made so far have none but a page outside its space.
-abbrev pub due : Opening → List Event → ℕ → Call → Option Cause
-due o past c (call.Fix p now) = option_or (outside o p) (hold_full past c)
-due o past c (call.Create p now) = option_or (outside o p) (option_or (hold_full past c) (resident (entries past) p))
-due o past c (call.Put p at bytes) = not_held past c p
-due o past c (call.Read p at len) = not_held past c p
-due o past c (call.Unfix p) = not_held past c p
-due o past c (call.Guess p f clock) = None
-due o past c (call.Watch p) = outside o p
-due o past c (call.Occurred p) = None
-due o past c (call.Unwatch p) = None
-due o past c (call.Clean bound) = None
-due o past c call.Check = None
-due o past c (call.Dump pct) = None
-due o past c (call.Resize bytes rounds) = None
+-- the remembered frame is none that there may ever be
+abbrev pub frame_cause : Config → ℕ → Option Cause
+frame_cause config f = if nat_le (config.frames * config.max) f then Some (cause.NoFrame (config.frames * config.max)) else None
+
+-- the page isn't resident, and as many other watches stand as may
+abbrev pub watch_cause : List Entry → ℕ → PageId → Option Cause
+watch_cause h c p = if is_none (home h p) && (other_watches h c p == MOST_WATCHES) then Some (cause.WatchFull MOST_WATCHES) else None
+
+-- the caller has no watch for the page
+abbrev pub unwatched_cause : List Entry → ℕ → PageId → Option Cause
+unwatched_cause h c p = if is_none (watch_of h c p) then Some cause.NoWatch else None
+
+-- no bytes, more chunks than there may be, or another call is withdrawing chunks
+abbrev pub resize_cause : Config → List Entry → ℕ → ℕ → ℕ → Option Cause
+resize_cause config h c n bytes =
+    if bytes == 0 then Some cause.TooSmall
+    else if nat_lt config.max (chunks_for config bytes) then Some (cause.TooLarge (chunks_for config bytes) config.max)
+    else option_map (λ (a : Area). cause.Withdrawing a.from) (others_area (book config h) c n)
+
+-- The first exact cause that holds of a call of the caller, once its places are left and its page is inside its space.
+abbrev pub due : Opening → List Entry → List Event → ℕ → ℕ → Call → Option Cause
+due o h mine c n (call.Fix p now) = full_cause mine
+due o h mine c n (call.Create p now) = option_or (full_cause mine) (resident_cause h p)
+due o h mine c n (call.Put p at bytes) = unheld_cause mine p
+due o h mine c n (call.Read p at len) = unheld_cause mine p
+due o h mine c n (call.Unfix p) = unheld_cause mine p
+due o h mine c n (call.Guess p f clock) = option_or (frame_cause o.config f) (full_cause mine)
+due o h mine c n (call.Watch p) = watch_cause h c p
+due o h mine c n (call.Occurred p) = unwatched_cause h c p
+due o h mine c n (call.Unwatch p) = unwatched_cause h c p
+due o h mine c n (call.Clean bound) = None
+due o h mine c n call.Check = None
+due o h mine c n (call.Dump pct) = None
+due o h mine c n (call.Resize bytes rounds) = resize_cause o.config h c n bytes
 
 -- the number that was found differs from the page's
 abbrev pub IsOther : PageId → BadPage → Type 0
@@ -85,82 +112,104 @@ IsOther p (bad.Number found) = found ≢ p.page
 IsOther p (bad.Space found) = found ≢ p.space
 IsOther p (bad.Torn head tail) = head ≢ tail
 
--- the page that a fix asks for
-abbrev pub fixed_page : Call → Option PageId
-fixed_page (call.Fix p now) = Some p
-fixed_page _ = None
-
--- the page for which a call asks for a frame
-abbrev pub framed_page : Call → Option PageId
-framed_page (call.Fix p now) = Some p
-framed_page (call.Create p now) = Some p
-framed_page _ = None
+-- the page that a call names
+abbrev pub named_page : Call → Option PageId
+named_page (call.Fix p now) = Some p
+named_page (call.Create p now) = Some p
+named_page (call.Put p at bytes) = Some p
+named_page (call.Read p at len) = Some p
+named_page (call.Unfix p) = Some p
+named_page (call.Guess p f clock) = Some p
+named_page (call.Watch p) = Some p
+named_page (call.Occurred p) = Some p
+named_page (call.Unwatch p) = Some p
+named_page (call.Clean bound) = None
+named_page call.Check = None
+named_page (call.Dump pct) = None
+named_page (call.Resize bytes rounds) = None
 
 -- the bytes of the record that the call would log
 abbrev pub record_bytes : Call → Option ℕ
-record_bytes (call.Fix p now) = None
-record_bytes (call.Create p now) = Some 21
-record_bytes (call.Put p at bytes) = Some (21 + length bytes)
-record_bytes (call.Read p at len) = None
-record_bytes (call.Unfix p) = None
-record_bytes (call.Guess p f clock) = None
-record_bytes (call.Watch p) = None
-record_bytes (call.Occurred p) = None
-record_bytes (call.Unwatch p) = None
-record_bytes (call.Clean bound) = None
-record_bytes call.Check = None
-record_bytes (call.Dump pct) = None
-record_bytes (call.Resize bytes rounds) = None
+record_bytes (call.Create p now) = Some RECORD_BYTES
+record_bytes (call.Put p at bytes) = Some (RECORD_BYTES + length bytes)
+record_bytes _ = None
 
--- a log that ends here, behind every earlier change, has no LSN left for the call's record
-pub record IsLogSpent (past : List Event) (asked : Call) (end : ℕ) : Type 0 where
-  pub behind : log_end (entries past) ≤ end
-  pub beyond : IsSomeAnd (record_bytes asked) (λ n. 2 ^ 63 < end + n)
+-- a log that ends here, behind every end that was told, has no LSN left for the call's record
+pub record IsLogSpent (h : List Entry) (asked : Call) (end : ℕ) : Type 0 where
+  pub behind : told_end h ≤ end
+  pub beyond : IsSomeAnd (record_bytes asked) (λ n. LAST_LSN < end + n)
 
--- what is so where a cause that is not exact comes; a cause that no call has so far does not come
-abbrev pub Comes : Opening → List Event → Call → Cause → Type 0
-Comes o past asked (cause.PlacesSpent mark need) = ⊥
-Comes o past asked (cause.NoSuchPage pages) = ⊥
-Comes o past asked (cause.HoldFull held) = ⊥
-Comes o past asked (cause.Resident f) = ⊥
-Comes o past asked (cause.AllFixed seen) = IsSomeAnd (framed_page asked) (λ p. AreAllFixed o.config (entries past) p seen)
-Comes o past asked (cause.RedoFault before after) = Rose before after × (log_faults (entries past) ≤ before)
-Comes o past asked (cause.DiskFault before after) = Rose before after × (disk_faults (entries past) ≤ before)
-Comes o past asked (cause.BadPage bad) = IsSomeAnd (fixed_page asked) (λ p. IsOther p bad)
-Comes o past asked (cause.LogSpent end) = IsLogSpent past asked end
-Comes o past asked (cause.WatchFull watches) = ⊥
-Comes o past asked cause.NoWatch = ⊥
-Comes o past asked cause.TooSmall = ⊥
-Comes o past asked (cause.TooLarge chunks max) = ⊥
-Comes o past asked (cause.Withdrawing from) = ⊥
-Comes o past asked (cause.Undone seen) = ⊥
-Comes o past asked (cause.NoFrame frames) = ⊥
-Comes o past asked (cause.Stale found) = ⊥
-Comes o past asked (cause.OtherPage found) = ⊥
-Comes o past asked (cause.Latched found) = ⊥
-Comes o past asked (cause.Busy found) = ⊥
-Comes o past asked cause.Unheld = ⊥
+-- the rounds that a resize may make
+abbrev pub rounds_of : Call → Option ℕ
+rounds_of (call.Resize bytes rounds) = Some rounds
+rounds_of _ = None
 
--- A call is refused with the exact cause that is due; where none is due, with another one that comes.
-abbrev pub Answers : Bool → Opening → List Event → Option Cause → Call → Cause → Type 0
-Answers true o past first asked why = first ≡ Some why
-Answers false o past first asked why = (first ≡ None) × Comes o past asked why
+-- the state before a call's undo, where that is its newest entry
+abbrev pub before_undo : List Entry → List Entry → List Entry
+before_undo [] h = h
+before_undo (e ∷ made) h = if is_undo e.kind then before e.place h else h
 
-abbrev pub IsRefused : Opening → List Event → ℕ → Call → Cause → Type 0
-IsRefused o past c asked why = Answers (is_exact why) o past (due o past c asked) asked why
+-- in each round that the call might make a frame of its area was found with a fix
+pub record IsUndone (config : Config) (h : List Entry) (asked : Call) (seen : List (ℕ × Word)) : Type 0 where
+  pub rounds : rounds_of asked ≡ Some (length seen)
+  pub inside : AllByRecursion (λ (x : ℕ × Word). IsTrue (is_in x.0 (area_frames config.frames (book config h)))) seen
+  pub fixed : AllByRecursion (λ (x : ℕ × Word). IsOfFixed x.1) seen
+
+-- the word shows no page, or another clock
+abbrev pub IsStale : Word → Hint → Type 0
+IsStale found hint = (is_resident found ≡ false) ⊎ (clock_of found ≢ hint.clock)
+
+-- what is so where a cause that is not exact comes, to a call that made these entries
+abbrev pub Comes : Opening → List Entry → List Entry → Call → Cause → Type 0
+Comes o h made asked (cause.AllFixed seen) = IsSomeAnd (named_page asked) (λ p. AreAllFixed o.config h p seen)
+Comes o h made asked (cause.RedoFault before after) = Rose before after × (log_faults h ≤ before)
+Comes o h made asked (cause.DiskFault before after) = Rose before after × (disk_faults h ≤ before)
+Comes o h made asked (cause.BadPage bad) = IsSomeAnd (named_page asked) (λ p. IsOther p bad)
+Comes o h made asked (cause.LogSpent end) = IsLogSpent h asked end
+Comes o h made asked (cause.Undone seen) = IsUndone o.config (before_undo made h) asked seen
+Comes o h made asked (cause.Stale found) = IsSomeAnd (hint_of asked) (IsStale found)
+Comes o h made asked (cause.OtherPage found) = IsSomeAnd (hint_of asked) (λ hint. same_page found hint.page ≡ false)
+Comes o h made asked (cause.Latched found) = is_latched found ≡ true
+Comes o h made asked (cause.Busy found) = is_latched found ≡ true
+Comes o h made asked _ = ⊥
+
+-- the history has not the places that the call needs
+pub record IsSpent (o : Opening) (h : List Entry) (c n : ℕ) (asked : Call) (mark need : ℕ) : Type 0 where
+  pub mark_is : mark ≡ Rattle.trail.specs.Trails.mark o.first h
+  pub need_is : need_of o.config h c n asked ≡ Some need
+  pub beyond : LIMIT < mark + need
+
+-- the call got as far as its own causes: its places were left, and its page is inside its space
+pub record IsReached (o : Opening) (h : List Entry) (made : List Entry) (c n : ℕ) (asked : Call) : Type 0 where
+  pub places : HasPlaces o.first o.config (before_call made h) c n asked
+  pub inside : IfSome (sought_page asked) (IsInside h)
+
+-- the first exact cause of the call is this one; or it has none, and one comes that is not exact
+abbrev pub IsFirst : Bool → Opening → List Entry → List Entry → Option Cause → Call → Cause → Type 0
+IsFirst true o h made first asked why = first ≡ Some why
+IsFirst false o h made first asked why = (first ≡ None) × Comes o h made asked why
+
+-- Places stand before all other causes, and the page's space before the rest. That a caller has no fix is the answer of its worker, before all causes of the pool.
+abbrev pub IsRefused : Opening → List Entry → List Event → ℕ → ℕ → Call → Cause → Type 0
+IsRefused o h mine c n asked (cause.PlacesSpent mark need) = IsSpent o (before_undo (made n mine) h) c n asked mark need
+IsRefused o h mine c n asked (cause.NoSuchPage pages) =
+    HasPlaces o.first o.config (before_call (made n mine) h) c n asked × IsSomeAnd (sought_page asked) (λ p. IsOutside h p pages)
+IsRefused o h mine c n asked cause.Unheld = due o h mine c n asked ≡ Some cause.Unheld
+IsRefused o h mine c n asked why = IsReached o h (made n mine) c n asked × IsFirst (is_exact why) o h (made n mine) (due o h mine c n asked) asked why
 
 -- A call that is granted has no exact cause.
-abbrev pub IsGranted : Opening → List Event → ℕ → Option Call → Type 0
-IsGranted o past c granted = IfSome granted (λ asked. due o past c asked ≡ None)
+pub record IsGranted (o : Opening) (h : List Entry) (mine : List Event) (c n : ℕ) (asked : Call) : Type 0 where
+  pub reached : IsReached o h (made n mine) c n asked
+  pub none_due : due o h mine c n asked ≡ None
 
-abbrev pub IsCausedKind : Opening → List Event → ℕ → Kind → Type 0
-IsCausedKind o past c (kind.Refused asked why) = IsRefused o past c asked why
-IsCausedKind o past c k = IsGranted o past c (granted_call k)
+abbrev pub IsCausedKind : Opening → List Entry → List Event → ℕ → ℕ → Kind → Type 0
+IsCausedKind o h mine c n (kind.Refused asked why) = IsRefused o h mine c n asked why
+IsCausedKind o h mine c n k = IfSome (granted_call k) (IsGranted o h mine c n)
 
-abbrev pub IsCausedNote : Opening → List Event → ℕ → Note → Type 0
-IsCausedNote o past c (note.Refused asked why) = IsRefused o past c asked why
-IsCausedNote o past c n = IsGranted o past c (noted_call n)
+abbrev pub IsCausedNote : Opening → List Entry → List Event → ℕ → ℕ → Note → Type 0
+IsCausedNote o h mine c n (note.Refused asked why) = IsRefused o h mine c n asked why
+IsCausedNote o h mine c n k = IfSome (noted_call k) (IsGranted o h mine c n)
 
-abbrev pub IsCaused : Opening → List Event → Event → Type 0
-IsCaused o past (event.Entry e) = IsCausedKind o past e.caller e.kind
-IsCaused o past (event.Receipt r) = IsCausedNote o past r.caller r.note
+abbrev pub IsCaused : Opening → List Entry → List Event → Event → Type 0
+IsCaused o h mine (event.Entry e) = IsCausedKind o h mine e.caller e.number e.kind
+IsCaused o h mine (event.Receipt r) = IsCausedNote o h mine r.caller r.number r.note

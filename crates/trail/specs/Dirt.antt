@@ -1,11 +1,16 @@
 -- The pages that were changed since they were last written, and where the log ends, as a history says. The newest entry stands first.
-use Rattle.std.specs.Prelude.{ℕ, Bool, not, List, [], ◌∷◌, Option, None, Some, filter, is_some, if◌then◌else◌}
+use Rattle.std.specs.Prelude.{ℕ, Bool, not, List, [], ◌∷◌, Option, None, Some, filter, is_some, map, if◌then◌else◌}
+use Rattle.std.specs.Option.{option_map_or}
 use Rattle.page_ids.specs.Same.{same_page}
 use Rattle.page_ids.specs.declared.ids.PageId.{PageId}
 use Rattle.trail.specs.declared.event.Kind.{Kind}
 use Rattle.trail.specs.declared.event.Kind.TheVariants as kind
 use Rattle.trail.specs.declared.event.Entry.{Entry}
 use Rattle.trail.specs.declared.event.Dirty.{Dirty}
+use Rattle.trail.specs.declared.event.Cause.{Cause}
+use Rattle.trail.specs.declared.event.Cause.TheVariants as cause
+use Rattle.trail.specs.Trails.{most}
+use Rattle.trail.specs.Kinds.{Changing, Refusing, change_in, refusal_in}
 
 -- A change whose record has these LSNs: a page that is dirty already keeps its oldest LSN and its place, another one comes to the end.
 abbrev pub dirtied : PageId → ℕ → ℕ → List Dirty → List Dirty
@@ -48,32 +53,31 @@ abbrev pub dirt_of : List Dirty → PageId → Option Dirty
 dirt_of [] p = None
 dirt_of (d ∷ ds) p = if same_page d.page p then Some d else dirt_of ds p
 
+-- the pages of dirty ones
+abbrev pub pages_of : List Dirty → List PageId
+pages_of ds = map (λ (d : Dirty). d.page) ds
+
 abbrev pub is_dirty : List Entry → PageId → Bool
 is_dirty h p = is_some (dirt_of (dirty h) p)
 
-abbrev pub log_end_after : Kind → ℕ → ℕ
-log_end_after (kind.Load q f) last = last
-log_end_after (kind.Fix q f clock now) last = last
-log_end_after (kind.Create q f start end now) last = end
-log_end_after (kind.Put q at bytes start end) last = end
-log_end_after (kind.Evict q f passed) last = last
-log_end_after (kind.Write q lsn upto) last = last
-log_end_after (kind.Move q from to) last = last
-log_end_after (kind.Withdraw from) last = last
-log_end_after (kind.Undo from) last = last
-log_end_after (kind.Shrink chunks) last = last
-log_end_after (kind.Grow chunks) last = last
-log_end_after (kind.Resize bytes chunks) last = last
-log_end_after (kind.Clean written skipped) last = last
-log_end_after (kind.Check lsn) last = last
-log_end_after (kind.WatchSet q) last = last
-log_end_after (kind.WatchAt q f) last = last
-log_end_after (kind.Occurred q arrived) last = last
-log_end_after (kind.Unwatch q) last = last
-log_end_after (kind.Dump pct ids) last = last
-log_end_after (kind.Refused asked why) last = last
-
 -- the end LSN of the last change, 0 before the first
+abbrev pub log_end_after : Kind → ℕ → ℕ
+log_end_after k last = option_map_or (λ (c : Changing). c.end) (change_in k) last
+
 abbrev pub log_end : List Entry → ℕ
 log_end [] = 0
 log_end (e ∷ h) = log_end_after e.kind (log_end h)
+
+-- an end of the log that a refusal tells
+abbrev pub spent_end : Cause → Option ℕ
+spent_end (cause.LogSpent end) = Some end
+spent_end _ = None
+
+abbrev pub told_end_after : Kind → ℕ → ℕ
+told_end_after k last = option_map_or (λ (c : Changing). most c.end last) (change_in k)
+    (option_map_or (λ (r : Refusing). option_map_or (λ end. most end last) (spent_end r.cause) last) (refusal_in k) last)
+
+-- the greatest end of the log that an entry tells: of a change, or where the log had no LSN left
+abbrev pub told_end : List Entry → ℕ
+told_end [] = 0
+told_end (e ∷ h) = told_end_after e.kind (told_end h)

@@ -1,5 +1,5 @@
 -- A history is its list of entries, the newest first. What it says of a page or a frame is a look-up from the newest entry back.
-use Rattle.std.specs.Prelude.{ℕ, Bool, false, List, [], ◌∷◌, ◌==◌, Option, None, Some, if◌then◌else◌, replicate}
+use Rattle.std.specs.Prelude.{ℕ, Bool, false, List, [], ◌∷◌, ◌==◌, Option, None, Some, if◌then◌else◌, find, replicate, unwrap_or}
 use Rattle.std.specs.Option.{option_map, option_map_or}
 use Rattle.page_ids.specs.Content.{Content, patched}
 use Rattle.page_ids.specs.Same.{same_page}
@@ -9,6 +9,7 @@ use Rattle.trail.specs.declared.event.Cause.TheVariants as cause
 use Rattle.trail.specs.declared.event.Kind.{Kind}
 use Rattle.trail.specs.declared.event.Kind.TheVariants as kind
 use Rattle.trail.specs.declared.event.Entry.{Entry}
+use Rattle.trail.specs.Kinds.{Placing, Changing, Refusing, arrival_in, change_in, refusal_in}
 
 -- The value of a page in the plain page map: at first what the disk gave, then blank where it was created, and with the bytes that were put.
 -- Loading, evicting and relocating leave it. Pages have `size` bytes.
@@ -65,111 +66,47 @@ abbrev pub home : List Entry → PageId → Option ℕ
 home [] p = None
 home (e ∷ h) p = home_after e.kind p (home h p)
 
+-- the pages that ever came into a frame, each one as often as it came
+abbrev pub arrived : List Entry → List PageId
+arrived [] = []
+arrived (e ∷ h) = option_map_or (λ (a : Placing). a.page ∷ arrived h) (arrival_in e.kind) (arrived h)
+
+-- the page that has the frame as its home
+abbrev pub tenant : List Entry → ℕ → Option PageId
+tenant h f = find (λ p. option_map_or (λ g. g == f) (home h p) false) (arrived h)
+
 -- whether the entry changes the page or the image of the frame, where it comes after this history
 abbrev pub changes : List Entry → Kind → ℕ → Bool
-changes h (kind.Load q g) f = g == f
-changes h (kind.Fix q g clock now) f = false
-changes h (kind.Create q g start end now) f = g == f
-changes h (kind.Put q at bytes start end) f = option_map_or (λ g. g == f) (home h q) false
-changes h (kind.Evict q g passed) f = false
-changes h (kind.Write q lsn upto) f = false
-changes h (kind.Move q from to) f = to == f
-changes h (kind.Withdraw from) f = false
-changes h (kind.Undo from) f = false
-changes h (kind.Shrink chunks) f = false
-changes h (kind.Grow chunks) f = false
-changes h (kind.Resize bytes chunks) f = false
-changes h (kind.Clean written skipped) f = false
-changes h (kind.Check lsn) f = false
-changes h (kind.WatchSet q) f = false
-changes h (kind.WatchAt q g) f = false
-changes h (kind.Occurred q arrived) f = false
-changes h (kind.Unwatch q) f = false
-changes h (kind.Dump pct ids) f = false
-changes h (kind.Refused asked why) f = false
+changes h k f = option_map_or (λ (a : Placing). a.frame == f) (arrival_in k)
+    (option_map_or (λ (c : Changing). option_map_or (λ g. g == f) (home h c.page) false) (change_in k) false)
 
 -- the modify clock of a frame: the place of its last change, 0 before the first
 abbrev pub change : List Entry → ℕ → ℕ
 change [] f = 0
 change (e ∷ h) f = if changes h e.kind f then e.place else change h f
 
--- the disk's count of faults after a refusal that tells it
-abbrev pub disk_faults_after : Cause → ℕ → ℕ
-disk_faults_after (cause.PlacesSpent mark need) last = last
-disk_faults_after (cause.NoSuchPage pages) last = last
-disk_faults_after (cause.HoldFull held) last = last
-disk_faults_after (cause.Resident f) last = last
-disk_faults_after (cause.AllFixed seen) last = last
-disk_faults_after (cause.RedoFault before after) last = last
-disk_faults_after (cause.DiskFault before after) last = after
-disk_faults_after (cause.BadPage bad) last = last
-disk_faults_after (cause.LogSpent end) last = last
-disk_faults_after (cause.WatchFull watches) last = last
-disk_faults_after cause.NoWatch last = last
-disk_faults_after cause.TooSmall last = last
-disk_faults_after (cause.TooLarge chunks max) last = last
-disk_faults_after (cause.Withdrawing from) last = last
-disk_faults_after (cause.Undone seen) last = last
-disk_faults_after (cause.NoFrame frames) last = last
-disk_faults_after (cause.Stale found) last = last
-disk_faults_after (cause.OtherPage found) last = last
-disk_faults_after (cause.Latched found) last = last
-disk_faults_after (cause.Busy found) last = last
-disk_faults_after cause.Unheld last = last
+-- the count of faults that a device's fault leaves
+abbrev pub disk_fault : Cause → Option ℕ
+disk_fault (cause.DiskFault before after) = Some after
+disk_fault _ = None
 
--- and the log's
-abbrev pub log_faults_after : Cause → ℕ → ℕ
-log_faults_after (cause.PlacesSpent mark need) last = last
-log_faults_after (cause.NoSuchPage pages) last = last
-log_faults_after (cause.HoldFull held) last = last
-log_faults_after (cause.Resident f) last = last
-log_faults_after (cause.AllFixed seen) last = last
-log_faults_after (cause.RedoFault before after) last = after
-log_faults_after (cause.DiskFault before after) last = last
-log_faults_after (cause.BadPage bad) last = last
-log_faults_after (cause.LogSpent end) last = last
-log_faults_after (cause.WatchFull watches) last = last
-log_faults_after cause.NoWatch last = last
-log_faults_after cause.TooSmall last = last
-log_faults_after (cause.TooLarge chunks max) last = last
-log_faults_after (cause.Withdrawing from) last = last
-log_faults_after (cause.Undone seen) last = last
-log_faults_after (cause.NoFrame frames) last = last
-log_faults_after (cause.Stale found) last = last
-log_faults_after (cause.OtherPage found) last = last
-log_faults_after (cause.Latched found) last = last
-log_faults_after (cause.Busy found) last = last
-log_faults_after cause.Unheld last = last
+abbrev pub log_fault : Cause → Option ℕ
+log_fault (cause.RedoFault before after) = Some after
+log_fault _ = None
 
--- what the cause of a refused call makes of a count; every other entry leaves it
-abbrev pub after_cause : (Cause → ℕ → ℕ) → Kind → ℕ → ℕ
-after_cause step (kind.Load q f) last = last
-after_cause step (kind.Fix q f clock now) last = last
-after_cause step (kind.Create q f start end now) last = last
-after_cause step (kind.Put q at bytes start end) last = last
-after_cause step (kind.Evict q f passed) last = last
-after_cause step (kind.Write q lsn upto) last = last
-after_cause step (kind.Move q from to) last = last
-after_cause step (kind.Withdraw from) last = last
-after_cause step (kind.Undo from) last = last
-after_cause step (kind.Shrink chunks) last = last
-after_cause step (kind.Grow chunks) last = last
-after_cause step (kind.Resize bytes chunks) last = last
-after_cause step (kind.Clean written skipped) last = last
-after_cause step (kind.Check lsn) last = last
-after_cause step (kind.WatchSet q) last = last
-after_cause step (kind.WatchAt q f) last = last
-after_cause step (kind.Occurred q arrived) last = last
-after_cause step (kind.Unwatch q) last = last
-after_cause step (kind.Dump pct ids) last = last
-after_cause step (kind.Refused asked why) last = step why last
+-- a refusal that tells a count leaves it; every other entry leaves the one before
+abbrev pub disk_faults_after : Kind → ℕ → ℕ
+disk_faults_after k last = option_map_or (λ (r : Refusing). unwrap_or (disk_fault r.cause) last) (refusal_in k) last
+
+abbrev pub log_faults_after : Kind → ℕ → ℕ
+log_faults_after k last = option_map_or (λ (r : Refusing). unwrap_or (log_fault r.cause) last) (refusal_in k) last
 
 -- the disk's count of faults as the last of its faults told it, 0 before the first
 abbrev pub disk_faults : List Entry → ℕ
 disk_faults [] = 0
-disk_faults (e ∷ h) = after_cause disk_faults_after e.kind (disk_faults h)
+disk_faults (e ∷ h) = disk_faults_after e.kind (disk_faults h)
 
 -- and the log's
 abbrev pub log_faults : List Entry → ℕ
 log_faults [] = 0
-log_faults (e ∷ h) = after_cause log_faults_after e.kind (log_faults h)
+log_faults (e ∷ h) = log_faults_after e.kind (log_faults h)

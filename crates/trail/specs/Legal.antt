@@ -1,13 +1,17 @@
--- Which events are legal. Each is judged by what stands before it; the newest event stands first.
-use Rattle.std.specs.Prelude.{ℕ, false, List, [], ◌∷◌, ◌++◌, ◌≡◌, ◌+◌, ◌-◌, ◌<◌, ◌≤◌, ◌⊎◌, Option, None, Some, IsSome, IsSomeAnd, Contains, slice_range, length, map, drop, ⊤}
-use Rattle.page_ids.specs.Same.{same_page}
+-- Which events are legal: where they stand, which call they belong to, and what they say of pages. An entry is judged by the history before it and
+-- its caller's own events, a receipt by the history at its place and its caller's own events. The newest stands first.
+use Rattle.std.specs.Prelude.{ℕ, Bool, true, false, not, List, [], ◌∷◌, ◌++◌, ◌≡◌, ◌+◌, ◌*◌, ◌/◌, ◌<◌, ◌≤◌, ◌⊎◌, Option, None, Some, IfSome, IsSome, IsSomeAnd, IsTrue, Contains, filter, slice_range, length, map, take, ⊤}
+use Rattle.std.specs.List.{AllByRecursion}
+use Rattle.std.specs.Option.{option_map, option_map_or, option_to_list}
+use Rattle.page_ids.specs.Chunks.{unit_of}
+use Rattle.page_ids.specs.Content.{Content, IsRange}
+use Rattle.page_ids.specs.FrameWord.{is_latched}
+use Rattle.page_ids.specs.Midpoint.{Listed}
 use Rattle.page_ids.specs.Size.{page_bytes}
 use Rattle.page_ids.specs.declared.ids.PageId.{PageId}
+use Rattle.page_ids.specs.declared.config.Config.{Config}
 use Rattle.page_ids.specs.declared.frame_word.Word.{Word}
-use Rattle.trail.specs.declared.event.Call.{Call}
-use Rattle.trail.specs.declared.event.Call.TheVariants as call
-use Rattle.trail.specs.declared.event.Cause.{Cause}
-use Rattle.trail.specs.declared.event.Cause.TheVariants as cause
+use Rattle.page_ids.specs.declared.limits.TheConstants.{RECORD_BYTES}
 use Rattle.trail.specs.declared.event.Dirty.{Dirty}
 use Rattle.trail.specs.declared.event.Kind.{Kind}
 use Rattle.trail.specs.declared.event.Kind.TheVariants as kind
@@ -17,218 +21,160 @@ use Rattle.trail.specs.declared.event.Entry.{Entry}
 use Rattle.trail.specs.declared.event.Receipt.{Receipt}
 use Rattle.trail.specs.declared.event.Event.{Event}
 use Rattle.trail.specs.declared.event.Event.TheVariants as event
-use Rattle.trail.specs.Places.{mark, entries}
-use Rattle.trail.specs.History.{home, change}
-use Rattle.trail.specs.Book.{book, next_frame}
-use Rattle.trail.specs.Dirt.{dirty, log_end}
-use Rattle.trail.specs.Calls.{next_number, under_way, held_by, newest_of}
-use Rattle.trail.specs.Opening.{Opening, OnValue}
+use Rattle.trail.specs.Trails.{Opening, mark}
+use Rattle.trail.specs.Kinds.{Writing, write_in}
+use Rattle.trail.specs.History.{home, change, value}
+use Rattle.trail.specs.Book.{Book, book, next_frame, is_in}
+use Rattle.trail.specs.Dirt.{dirty, log_end, pages_of}
+use Rattle.trail.specs.Order.{order}
+use Rattle.trail.specs.Watches.{Watch, watch_of}
+use Rattle.trail.specs.Words.{frames_of}
+use Rattle.trail.specs.Calls.{calls_of, made, is_answered, first_made, before_call, open_fixes, newest_fix}
+use Rattle.trail.specs.Preceding.{MayPrecede}
 
--- the newest entry is this caller's
-abbrev pub IsLast : List Entry → ℕ → Type 0
-IsLast [] c = ⊥
-IsLast (e ∷ h) c = e.caller ≡ c
+-- a fact of the page's value, where values are told
+abbrev pub OnValue : Opening → List Entry → PageId → (Option Content → Type 0) → Type 0
+OnValue o h p P = IfSome o.base (λ base. P (value (page_bytes o.config.page) base h p))
 
--- the entries of one call follow each other
-abbrev pub IsTogether : List Event → ℕ → Type 0
-IsTogether past c = (under_way past c ≡ []) ⊎ IsLast (entries past) c
+-- an earlier call that has no answer yet
+pub record IsOpen (mine : List Event) (n : ℕ) : Type 0 where
+  pub first : 1 ≤ n
+  pub begun : n ≤ calls_of mine
+  pub unanswered : is_answered n mine ≡ false
 
--- the page that an entry says was written
-abbrev pub written_page : Kind → Option PageId
-written_page (kind.Load p f) = None
-written_page (kind.Fix p f clock now) = None
-written_page (kind.Create p f start end now) = None
-written_page (kind.Put p at bytes start end) = None
-written_page (kind.Evict p f passed) = None
-written_page (kind.Write p lsn upto) = Some p
-written_page (kind.Move p from to) = None
-written_page (kind.Withdraw from) = None
-written_page (kind.Undo from) = None
-written_page (kind.Shrink chunks) = None
-written_page (kind.Grow chunks) = None
-written_page (kind.Resize bytes chunks) = None
-written_page (kind.Clean written skipped) = None
-written_page (kind.Check lsn) = None
-written_page (kind.WatchSet p) = None
-written_page (kind.WatchAt p f) = None
-written_page (kind.Occurred p arrived) = None
-written_page (kind.Unwatch p) = None
-written_page (kind.Dump pct ids) = None
-written_page (kind.Refused asked why) = None
+-- an event belongs to the caller's next call, or to one that has no answer yet
+abbrev pub IsNumbered : List Event → ℕ → Type 0
+IsNumbered mine n = (n ≡ calls_of mine + 1) ⊎ IsOpen mine n
 
--- entries that are writes alone
-abbrev pub AreWrites : List Kind → Type 0
-AreWrites [] = ⊤
-AreWrites (k ∷ made) = IsSome (written_page k) × AreWrites made
+abbrev pub begins_resize : Kind → Bool
+begins_resize (kind.Withdraw from) = true
+begins_resize (kind.Grow chunks) = true
+begins_resize _ = false
 
--- the entries by which a frame was had for a page: none where one was free, else the evict of another page, behind its write where it was dirty
-abbrev pub IsHad : PageId → List Kind → Type 0
-IsHad p [] = ⊤
-IsHad p (kind.Evict q f passed ∷ made) = (same_page q p ≡ false) × ((made ≡ []) ⊎ ((lsn : ℕ) × (upto : ℕ) × (made ≡ kind.Write q lsn upto ∷ [])))
-IsHad p (k ∷ made) = ⊥
+-- whether the call that made these entries is a resize
+abbrev pub is_resize : List Entry → Bool
+is_resize made = option_map_or (λ (e : Entry). begins_resize e.kind) (first_made made) false
 
--- the entries that a fix may have that was refused so: none, or a frame was had for a page that has no home and could not be read in
-abbrev pub MayPrecedeUnfixed : List Entry → List Kind → PageId → Cause → Type 0
-MayPrecedeUnfixed h made p (cause.DiskFault before after) = (made ≡ []) ⊎ ((home h p ≡ None) × IsHad p made)
-MayPrecedeUnfixed h made p (cause.BadPage bad) = (made ≡ []) ⊎ ((home h p ≡ None) × IsHad p made)
-MayPrecedeUnfixed h made p why = made ≡ []
+-- The entries of one call follow each other, but those of a resize.
+abbrev pub IsTogether : ℕ → List Entry → Type 0
+IsTogether place [] = ⊤
+IsTogether place (e ∷ made) = (place ≡ e.place + 1) ⊎ IsTrue (is_resize (e ∷ made))
 
--- the entries that a create may have that was refused so: none, or a frame was had for a page that has no home, and the log had no room for its record
-abbrev pub MayPrecedeUncreated : List Entry → List Kind → PageId → Cause → Type 0
-MayPrecedeUncreated h made p (cause.LogSpent end) = (made ≡ []) ⊎ ((home h p ≡ None) × IsHad p made)
-MayPrecedeUncreated h made p why = made ≡ []
-
--- the entries that a refused call may have: a fix or a create those by which it had a frame, a clean its writes, every other call has none so far
-abbrev pub MayPrecedeRefusal : List Entry → List Kind → Call → Cause → Type 0
-MayPrecedeRefusal h made (call.Fix p now) why = MayPrecedeUnfixed h made p why
-MayPrecedeRefusal h made (call.Create p now) why = MayPrecedeUncreated h made p why
-MayPrecedeRefusal h made (call.Put p at bytes) why = made ≡ []
-MayPrecedeRefusal h made (call.Read p at len) why = made ≡ []
-MayPrecedeRefusal h made (call.Unfix p) why = made ≡ []
-MayPrecedeRefusal h made (call.Guess p f clock) why = made ≡ []
-MayPrecedeRefusal h made (call.Watch p) why = made ≡ []
-MayPrecedeRefusal h made (call.Occurred p) why = made ≡ []
-MayPrecedeRefusal h made (call.Unwatch p) why = made ≡ []
-MayPrecedeRefusal h made (call.Clean bound) why = AreWrites made
-MayPrecedeRefusal h made call.Check why = made ≡ []
-MayPrecedeRefusal h made (call.Dump pct) why = made ≡ []
-MayPrecedeRefusal h made (call.Resize bytes rounds) why = made ≡ []
-
--- Which entries a call may have before this one at this history, the newest first. An answer is judged; what stands before answers is judged with them.
--- A fix may have had a frame and read its page into it, a create may have had one, and a clean may have written pages; every other answer comes alone so far.
-abbrev pub MayPrecede : List Entry → List Kind → Kind → Type 0
-MayPrecede h made (kind.Load p f) = ⊤
-MayPrecede h made (kind.Fix p f clock now) = (made ≡ []) ⊎ ((had : List Kind) × (made ≡ kind.Load p f ∷ had) × IsHad p had)
-MayPrecede h made (kind.Create p f start end now) = IsHad p made
-MayPrecede h made (kind.Put p at bytes start end) = made ≡ []
-MayPrecede h made (kind.Evict p f passed) = ⊤
-MayPrecede h made (kind.Write p lsn upto) = ⊤
-MayPrecede h made (kind.Move p from to) = ⊤
-MayPrecede h made (kind.Withdraw from) = ⊤
-MayPrecede h made (kind.Undo from) = ⊤
-MayPrecede h made (kind.Shrink chunks) = ⊤
-MayPrecede h made (kind.Grow chunks) = ⊤
-MayPrecede h made (kind.Resize bytes chunks) = made ≡ []
-MayPrecede h made (kind.Clean written skipped) = AreWrites made
-MayPrecede h made (kind.Check lsn) = made ≡ []
-MayPrecede h made (kind.WatchSet p) = made ≡ []
-MayPrecede h made (kind.WatchAt p f) = made ≡ []
-MayPrecede h made (kind.Occurred p arrived) = made ≡ []
-MayPrecede h made (kind.Unwatch p) = made ≡ []
-MayPrecede h made (kind.Dump pct ids) = made ≡ []
-MayPrecede h made (kind.Refused asked why) = MayPrecedeRefusal h made asked why
-
--- a page that has no home and has a value is read into the next frame
-pub record IsLoad (o : Opening) (past : List Event) (p : PageId) (f : ℕ) : Type 0 where
-  pub absent : home (entries past) p ≡ None
-  pub next : next_frame (book o.config (entries past)) ≡ Some f
-  pub sound : OnValue o past p (λ v. IsSome v)
+-- a page that has no home and has a value is read into the frame that the call takes
+pub record IsLoad (o : Opening) (h : List Entry) (c n : ℕ) (p : PageId) (f : ℕ) : Type 0 where
+  pub absent : home h p ≡ None
+  pub next : next_frame (book o.config h) c n ≡ Some f
+  pub sound : OnValue o h p (λ v. IsSome v)
 
 -- a fix is granted where the page is, at the frame's clock
-pub record IsFix (past : List Event) (p : PageId) (f clock : ℕ) : Type 0 where
-  pub resident : home (entries past) p ≡ Some f
-  pub unchanged : clock ≡ change (entries past) f
+pub record IsFix (h : List Entry) (p : PageId) (f clock : ℕ) : Type 0 where
+  pub resident : home h p ≡ Some f
+  pub unchanged : clock ≡ change h f
 
--- a page that has no home is made in the next frame, and the record of that stands in the log behind that of every earlier change
-pub record IsCreate (o : Opening) (past : List Event) (p : PageId) (f start end : ℕ) : Type 0 where
-  pub absent : home (entries past) p ≡ None
-  pub next : next_frame (book o.config (entries past)) ≡ Some f
-  pub behind : log_end (entries past) ≤ start
-  pub record_is : end ≡ start + 21
+-- a page that has no home is made in the frame that the call takes, and the record of that stands in the log behind that of every earlier change
+pub record IsCreate (o : Opening) (h : List Entry) (c n : ℕ) (p : PageId) (f start end : ℕ) : Type 0 where
+  pub absent : home h p ≡ None
+  pub next : next_frame (book o.config h) c n ≡ Some f
+  pub behind : log_end h ≤ start
+  pub record_is : end ≡ start + RECORD_BYTES
 
 -- bytes of a page that the caller has fixed were changed, and the record of the change stands in the log behind that of every earlier one
-pub record IsPut (o : Opening) (past : List Event) (c : ℕ) (p : PageId) (at : ℕ) (bytes : List ℕ) (start end : ℕ) : Type 0 where
-  pub held : IsSome (newest_of (held_by past c) p)
-  pub some : 0 < length bytes
-  pub header : 38 ≤ at
-  pub trailer : at + length bytes ≤ page_bytes o.config.page - 8
-  pub behind : log_end (entries past) ≤ start
-  pub record_is : end ≡ start + 21 + length bytes
+pub record IsPut (o : Opening) (h : List Entry) (mine : List Event) (p : PageId) (at : ℕ) (bytes : List ℕ) (start end : ℕ) : Type 0 where
+  pub held : IsSome (newest_fix (open_fixes mine) p)
+  pub range : IsRange (page_bytes o.config.page) at (length bytes)
+  pub behind : log_end h ≤ start
+  pub record_is : end ≡ start + RECORD_BYTES + length bytes
 
-abbrev pub listed : Option PageId → List PageId
-listed None = []
-listed (Some p) = p ∷ []
-
--- the pages that were written, in their order; the newest entry stands first
-abbrev pub written_pages : List Kind → List PageId
+-- the pages that were written, the first one first
+abbrev pub written_pages : List Entry → List PageId
 written_pages [] = []
-written_pages (k ∷ made) = written_pages made ++ listed (written_page k)
+written_pages (e ∷ made) = written_pages made ++ option_to_list (option_map (λ (w : Writing). w.page) (write_in e.kind))
 
--- the pages of dirty ones
-abbrev pub pages_of : List Dirty → List PageId
-pages_of ds = map (λ (d : Dirty). d.page) ds
+-- whether the page's frame was skipped
+abbrev pub is_skipped : List Entry → List (ℕ × Word) → PageId → Bool
+is_skipped h skipped p = option_map_or (λ f. is_in f (frames_of skipped)) (home h p) false
 
--- the history before the call under way
-abbrev pub before_call : List Event → ℕ → List Entry
-before_call past c = drop (length (under_way past c)) (entries past)
+-- the pages that a clean came to: the first of those that were dirty before it
+abbrev pub cleaned_first : List Entry → List Entry → List (ℕ × Word) → List PageId
+cleaned_first h made skipped = take (length made + length skipped) (pages_of (dirty (before_call made h)))
 
--- The first of the pages that were dirty before the call were written, in their order. No frame is latched, so none was skipped.
-pub record IsClean (past : List Event) (c written : ℕ) (skipped : List (ℕ × Word)) : Type 0 where
-  pub rest : List PageId
-  pub oldest : pages_of (dirty (before_call past c)) ≡ written_pages (under_way past c) ++ rest
-  pub count : written ≡ length (under_way past c)
-  pub none_skipped : skipped ≡ []
+-- The first of the pages that were dirty before the call were written, in their order, but those that were skipped: their frames were found latched.
+pub record IsClean (h : List Entry) (made : List Entry) (written : ℕ) (skipped : List (ℕ × Word)) : Type 0 where
+  pub count : written ≡ length made
+  pub oldest : written_pages made ≡ filter (λ p. not (is_skipped h skipped p)) (cleaned_first h made skipped)
+  pub passed : length skipped ≡ length (filter (is_skipped h skipped) (cleaned_first h made skipped))
+  pub latched : AllByRecursion (λ (x : ℕ × Word). is_latched x.1 ≡ true) skipped
 
 -- where a redo would have to begin: at the oldest change that isn't on the disk, or where there is none at an end that is behind every change
 abbrev pub IsCheckpoint : List Dirty → ℕ → ℕ → Type 0
 IsCheckpoint [] end lsn = end ≤ lsn
 IsCheckpoint (d ∷ ds) end lsn = lsn ≡ d.oldest
 
--- Entries of a kind that no call makes so far are not legal. What a write and an evict need stands beside (`IsCovered`, `IsVictim`).
-abbrev pub IsLegalKind : Opening → List Event → ℕ → Kind → Type 0
-IsLegalKind o past c (kind.Load p f) = IsLoad o past p f
-IsLegalKind o past c (kind.Fix p f clock now) = IsFix past p f clock
-IsLegalKind o past c (kind.Create p f start end now) = IsCreate o past p f start end
-IsLegalKind o past c (kind.Put p at bytes start end) = IsPut o past c p at bytes start end
-IsLegalKind o past c (kind.Evict p f passed) = ⊤
-IsLegalKind o past c (kind.Write p lsn upto) = ⊤
-IsLegalKind o past c (kind.Move p from to) = ⊥
-IsLegalKind o past c (kind.Withdraw from) = ⊥
-IsLegalKind o past c (kind.Undo from) = ⊥
-IsLegalKind o past c (kind.Shrink chunks) = ⊥
-IsLegalKind o past c (kind.Grow chunks) = ⊥
-IsLegalKind o past c (kind.Resize bytes chunks) = ⊥
-IsLegalKind o past c (kind.Clean written skipped) = IsClean past c written skipped
-IsLegalKind o past c (kind.Check lsn) = IsCheckpoint (dirty (entries past)) (log_end (entries past)) lsn
-IsLegalKind o past c (kind.WatchSet p) = ⊥
-IsLegalKind o past c (kind.WatchAt p f) = ⊥
-IsLegalKind o past c (kind.Occurred p arrived) = ⊥
-IsLegalKind o past c (kind.Unwatch p) = ⊥
-IsLegalKind o past c (kind.Dump pct ids) = ⊥
-IsLegalKind o past c (kind.Refused asked why) = ⊤
+-- the chunks that are there, and their bytes in all instances
+pub record IsResized (config : Config) (b : Book) (bytes chunks : ℕ) : Type 0 where
+  pub chunks_are : chunks ≡ b.chunks
+  pub bytes_are : bytes ≡ chunks * unit_of config
+
+-- the first so many percent of the LRU list
+abbrev pub dumped : Config → List Entry → ℕ → List PageId
+dumped config h pct = let pages = map (λ (x : Listed PageId). x.key) (order config h).listed in take (length pages * pct / 100) pages
+
+-- What a write, an evict and the steps of a resize need stands beside (`IsCovered`, `IsVictim`, `IsWithdrawal`).
+abbrev pub IsLegalKind : Opening → List Entry → List Event → ℕ → ℕ → Kind → Type 0
+IsLegalKind o h mine c n (kind.Load p f) = IsLoad o h c n p f
+IsLegalKind o h mine c n (kind.Fix p f clock now) = IsFix h p f clock
+IsLegalKind o h mine c n (kind.Create p f start end now) = IsCreate o h c n p f start end
+IsLegalKind o h mine c n (kind.Put p at bytes start end) = IsPut o h mine p at bytes start end
+IsLegalKind o h mine c n (kind.Evict p f passed) = ⊤
+IsLegalKind o h mine c n (kind.Write p lsn upto) = ⊤
+IsLegalKind o h mine c n (kind.Move p from to) = ⊤
+IsLegalKind o h mine c n (kind.Withdraw from) = ⊤
+IsLegalKind o h mine c n (kind.Undo from) = ⊤
+IsLegalKind o h mine c n (kind.Shrink chunks) = ⊤
+IsLegalKind o h mine c n (kind.Grow chunks) = ⊤
+IsLegalKind o h mine c n (kind.Resize bytes chunks) = IsResized o.config (book o.config h) bytes chunks
+IsLegalKind o h mine c n (kind.Clean written skipped) = IsClean h (made n mine) written skipped
+IsLegalKind o h mine c n (kind.Check lsn) = IsCheckpoint (dirty h) (log_end h) lsn
+IsLegalKind o h mine c n (kind.WatchSet p) = home h p ≡ None
+IsLegalKind o h mine c n (kind.WatchAt p f) = home h p ≡ Some f
+IsLegalKind o h mine c n (kind.Occurred p arrived) = option_map (λ (w : Watch). w.occurred) (watch_of h c p) ≡ Some arrived
+IsLegalKind o h mine c n (kind.Unwatch p) = IsSome (watch_of h c p)
+IsLegalKind o h mine c n (kind.Dump pct ids) = ids ≡ dumped o.config h pct
+IsLegalKind o h mine c n (kind.Refused asked why) = ⊤
 
 -- bytes were copied from a page that the caller has fixed, at the clock of its frame
-pub record IsCopy (o : Opening) (past : List Event) (c : ℕ) (p : PageId) (at : ℕ) (bytes : List ℕ) (clock : ℕ) : Type 0 where
-  pub held : IsSome (newest_of (held_by past c) p)
-  pub read : OnValue o past p (λ v. IsSomeAnd v (λ content. bytes ≡ slice_range content.bytes at (at + length bytes)))
-  pub unchanged : IsSomeAnd (home (entries past) p) (λ f. clock ≡ change (entries past) f)
+pub record IsReadOf (o : Opening) (h : List Entry) (mine : List Event) (p : PageId) (at : ℕ) (bytes : List ℕ) (clock : ℕ) : Type 0 where
+  pub held : IsSome (newest_fix (open_fixes mine) p)
+  pub read : OnValue o h p (λ v. IsSomeAnd v (λ content. bytes ≡ slice_range content.bytes at (at + length bytes)))
+  pub unchanged : IsSomeAnd (home h p) (λ f. clock ≡ change h f)
 
-abbrev pub IsLegalNote : Opening → List Event → ℕ → Note → Type 0
-IsLegalNote o past c (note.Granted p f clock) = ⊥
-IsLegalNote o past c (note.Copied p at bytes clock) = IsCopy o past c p at bytes clock
-IsLegalNote o past c (note.Unfixed p f fix) = Contains (held_by past c) (record { page = p; frame = f; number = fix })
-IsLegalNote o past c (note.Refused asked why) = ⊤
+-- a guess is granted where the page is, at the frame's clock
+abbrev pub IsLegalNote : Opening → List Entry → List Event → Note → Type 0
+IsLegalNote o h mine (note.Granted p f clock) = IsFix h p f clock
+IsLegalNote o h mine (note.Copied p at bytes clock) = IsReadOf o h mine p at bytes clock
+IsLegalNote o h mine (note.Unfixed p f fix) = Contains (open_fixes mine) (record { page = p; frame = f; number = fix })
+IsLegalNote o h mine (note.Refused asked why) = ⊤
 
--- receipts of one place rise by caller, then number
-abbrev pub IsInOrder : List Event → ℕ → ℕ → Type 0
-IsInOrder [] c n = ⊤
-IsInOrder (event.Entry e ∷ past) c n = ⊤
-IsInOrder (event.Receipt r ∷ past) c n = (r.caller < c) ⊎ ((r.caller ≡ c) × (r.number < n))
+pub record IsLegalEntry (o : Opening) (h : List Entry) (mine : List Event) (e : Entry) : Type 0 where
+  pub place : e.place ≡ mark o.first h + 1
+  pub number : IsNumbered mine e.number
+  pub together : IsTogether e.place (made e.number mine)
+  pub before : MayPrecede h (made e.number mine) e.kind
+  pub kind : IsLegalKind o h mine e.caller e.number e.kind
 
-pub record IsLegalEntry (o : Opening) (past : List Event) (e : Entry) : Type 0 where
-  pub place : e.place ≡ mark o.first (entries past) + 1
-  pub number : e.number ≡ next_number past e.caller
-  pub together : IsTogether past e.caller
-  pub before : MayPrecede (entries past) (under_way past e.caller) e.kind
-  pub kind : IsLegalKind o past e.caller e.kind
+-- a call that is answered by a receipt has no entry
+pub record IsLegalReceipt (o : Opening) (h : List Entry) (mine : List Event) (r : Receipt) : Type 0 where
+  pub place : r.place ≡ mark o.first h
+  pub number : r.number ≡ calls_of mine + 1
+  pub note : IsLegalNote o h mine r.note
 
-pub record IsLegalReceipt (o : Opening) (past : List Event) (r : Receipt) : Type 0 where
-  pub place : r.place ≡ mark o.first (entries past)
-  pub order : IsInOrder past r.caller r.number
-  pub number : r.number ≡ next_number past r.caller
-  pub before : under_way past r.caller ≡ []
-  pub note : IsLegalNote o past r.caller r.note
+abbrev pub IsLegal : Opening → List Entry → List Event → Event → Type 0
+IsLegal o h mine (event.Entry e) = IsLegalEntry o h mine e
+IsLegal o h mine (event.Receipt r) = IsLegalReceipt o h mine r
 
-abbrev pub IsLegal : Opening → List Event → Event → Type 0
-IsLegal o past (event.Entry e) = IsLegalEntry o past e
-IsLegal o past (event.Receipt r) = IsLegalReceipt o past r
+-- Receipts of one place rise by caller, then number. It is the one law that reads the event before.
+abbrev pub IsInOrder : List Event → Event → Type 0
+IsInOrder past (event.Entry e) = ⊤
+IsInOrder [] (event.Receipt r) = ⊤
+IsInOrder (event.Entry e ∷ past) (event.Receipt r) = ⊤
+IsInOrder (event.Receipt q ∷ past) (event.Receipt r) = (q.caller < r.caller) ⊎ ((q.caller ≡ r.caller) × (q.number < r.number))

@@ -5,7 +5,7 @@ use Rattle.trail.specs.declared.event.Entry.{Entry}
 use Rattle.trail.specs.declared.event.Receipt.{Receipt}
 use Rattle.trail.specs.declared.event.Event.{Event}
 use Rattle.trail.specs.declared.event.Event.TheVariants as event
-use Rattle.trail.specs.Places.{mark, AreWithin, entries}
+use Rattle.trail.specs.Trails.{mark, AreWithin, entries}
 
 -- the receipts of the accounts, and how many they are
 abbrev pub lists : List (Vec Receipt Global) → List (List Receipt)

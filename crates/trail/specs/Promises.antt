@@ -1,5 +1,6 @@
--- What the calls promise beside the laws: of refusals, and of lists of frames.
-use Rattle.std.specs.Prelude.{ℕ, Bool, true, false, List, [], ◌∷◌, ◌++◌, ◌≡◌, ◌≤◌, None, IsSome, IsTrue, length, ⊤}
+-- What the calls promise beside the laws: which refusals a call has and how it leaves them, how many pages a space has, and that lists of frames rise.
+-- A trail alone doesn't show it.
+use Rattle.std.specs.Prelude.{ℕ, Bool, true, false, List, [], ◌∷◌, ◌≡◌, ◌≤◌, ◌<◌, None, IfSome, IsSome, IsTrue, length, take, ⊤}
 use Rattle.page_ids.specs.FrameWord.{AreRising}
 use Rattle.page_ids.specs.declared.ids.PageId.{PageId}
 use Rattle.trail.specs.declared.event.Call.{Call}
@@ -10,16 +11,17 @@ use Rattle.trail.specs.declared.event.Kind.{Kind}
 use Rattle.trail.specs.declared.event.Kind.TheVariants as kind
 use Rattle.trail.specs.declared.event.Note.{Note}
 use Rattle.trail.specs.declared.event.Note.TheVariants as note
+use Rattle.trail.specs.declared.event.Entry.{Entry}
 use Rattle.trail.specs.declared.event.Event.{Event}
 use Rattle.trail.specs.declared.event.Event.TheVariants as event
-use Rattle.trail.specs.Places.{entries}
+use Rattle.trail.specs.Trails.{Opening, caller_of, entries, own}
+use Rattle.trail.specs.Kinds.{refusal_in}
 use Rattle.trail.specs.History.{home}
-use Rattle.trail.specs.Dirt.{dirty}
-use Rattle.trail.specs.Calls.{under_way}
-use Rattle.trail.specs.Legal.{before_call, pages_of, written_pages}
-use Rattle.trail.specs.Opening.{Opening, OnValue}
-use Rattle.trail.specs.Causes.{due}
-use Rattle.trail.specs.Alone.{cause_words}
+use Rattle.trail.specs.Dirt.{dirty, pages_of}
+use Rattle.trail.specs.Calls.{made, before_call}
+use Rattle.trail.specs.Legal.{OnValue, written_pages}
+use Rattle.trail.specs.Spaces.{sought_page, page_shown, pages_in_cause}
+use Rattle.trail.specs.Causes.{is_exact}
 
 -- every frame was seen with a fix, or a device failed
 abbrev pub is_excuse : Cause → Bool
@@ -51,10 +53,14 @@ is_own (call.Clean bound) (cause.RedoFault before after) = true
 is_own (call.Clean bound) (cause.DiskFault before after) = true
 is_own _ _ = false
 
--- A fix of which no exact cause holds is refused only where its page has no home; where the page has a value, only with an excuse.
-abbrev pub IsExcused : Opening → List Event → ℕ → Call → Cause → Type 0
-IsExcused o past c (call.Fix p now) why = due o past c (call.Fix p now) ≡ None → (home (entries past) p ≡ None) × OnValue o past p (λ v. IsSome v → IsTrue (is_excuse why))
-IsExcused o past c _ why = ⊤
+-- A fix that was refused with no exact cause is of a page that has no home; where the page has a value, there was an excuse.
+pub record HasExcuse (o : Opening) (h : List Entry) (p : PageId) (why : Cause) : Type 0 where
+  pub absent : home h p ≡ None
+  pub excused : OnValue o h p (λ v. IsSome v → IsTrue (is_excuse why))
+
+abbrev pub IsExcused : Opening → List Entry → Call → Cause → Type 0
+IsExcused o h (call.Fix p now) why = is_exact why ≡ false → HasExcuse o h p why
+IsExcused o h _ why = ⊤
 
 -- whether the refusal is a receipt of its pass; every other one is an entry of the history
 abbrev pub is_noted : Cause → Bool
@@ -62,38 +68,47 @@ is_noted cause.Unheld = true
 is_noted _ = false
 
 -- the pages that a refused clean had written are the first of those that were dirty before it, in their order, and no more than its bound
-pub record IsBegun (past : List Event) (c bound : ℕ) : Type 0 where
-  pub rest : List PageId
-  pub oldest : pages_of (dirty (before_call past c)) ≡ written_pages (under_way past c) ++ rest
-  pub most : length (under_way past c) ≤ bound
+pub record IsBegun (h made : List Entry) (bound : ℕ) : Type 0 where
+  pub oldest : written_pages made ≡ take (length made) (pages_of (dirty (before_call made h)))
+  pub most : length made ≤ bound
 
-abbrev pub IsBegunCall : List Event → ℕ → Call → Type 0
-IsBegunCall past c (call.Clean bound) = IsBegun past c bound
-IsBegunCall past c _ = ⊤
+abbrev pub IsBegunCall : List Entry → List Entry → Call → Type 0
+IsBegunCall h made (call.Clean bound) = IsBegun h made bound
+IsBegunCall h made _ = ⊤
+
+-- the frames that were seen rise, each told once
+abbrev pub TellsRising : Cause → Type 0
+TellsRising (cause.AllFixed seen) = AreRising seen
+TellsRising _ = ⊤
 
 -- a refusal as the calls promise it
-pub record IsFairRefusal (noted : Bool) (o : Opening) (past : List Event) (c : ℕ) (asked : Call) (why : Cause) : Type 0 where
+pub record IsFairRefusal (noted : Bool) (o : Opening) (h made : List Entry) (asked : Call) (why : Cause) : Type 0 where
   pub own : IsTrue (is_own asked why)
   pub filed : is_noted why ≡ noted
-  pub excused : IsExcused o past c asked why
-  pub rising : AreRising (cause_words why)
-  pub begun : IsBegunCall past c asked
+  pub excused : IsExcused o h asked why
+  pub rising : TellsRising why
+  pub begun : IsBegunCall h made asked
 
--- frames that a list tells rise, each told once
-abbrev pub IsPromisedKind : Opening → List Event → ℕ → Kind → Type 0
-IsPromisedKind o past c (kind.Refused asked why) = IsFairRefusal false o past c asked why
-IsPromisedKind o past c (kind.Evict p f passed) = AreRising passed
-IsPromisedKind o past c _ = ⊤
+-- what the entry tells of a space is so: the page of an answer is in it, and a refusal for a page that isn't there names the number of its pages
+pub record IsOfSpaces (pages : ℕ → ℕ) (k : Kind) : Type 0 where
+  pub inside : IfSome (page_shown k) (λ p. p.page < pages p.space)
+  pub told : IfSome (refusal_in k) (λ r. IfSome (sought_page r.call) (λ p. IfSome (pages_in_cause r.cause) (λ n. n ≡ pages p.space)))
 
-abbrev pub IsPromisedNote : Opening → List Event → ℕ → Note → Type 0
-IsPromisedNote o past c (note.Refused asked why) = IsFairRefusal true o past c asked why
-IsPromisedNote o past c _ = ⊤
+-- frames that an evict passed rise, each told once
+abbrev pub IsPromisedKind : Opening → List Entry → List Entry → Kind → Type 0
+IsPromisedKind o h made (kind.Refused asked why) = IsFairRefusal false o h made asked why
+IsPromisedKind o h made (kind.Evict p f passed) = AreRising passed
+IsPromisedKind o h made _ = ⊤
 
-abbrev pub IsPromised : Opening → List Event → Event → Type 0
-IsPromised o past (event.Entry e) = IsPromisedKind o past e.caller e.kind
-IsPromised o past (event.Receipt r) = IsPromisedNote o past r.caller r.note
+abbrev pub IsPromisedNote : Opening → List Entry → Note → Type 0
+IsPromisedNote o h (note.Refused asked why) = IsFairRefusal true o h [] asked why
+IsPromisedNote o h _ = ⊤
+
+abbrev pub IsPromised : Opening → (ℕ → ℕ) → List Entry → List Event → Event → Type 0
+IsPromised o pages h mine (event.Entry e) = IsOfSpaces pages e.kind × IsPromisedKind o h (made e.number mine) e.kind
+IsPromised o pages h mine (event.Receipt r) = IsPromisedNote o h r.note
 
 -- and so at each event of a trail, the newest first
-abbrev pub ArePromised : Opening → List Event → Type 0
-ArePromised o [] = ⊤
-ArePromised o (e ∷ past) = IsPromised o past e × ArePromised o past
+abbrev pub ArePromised : Opening → (ℕ → ℕ) → List Event → Type 0
+ArePromised o pages [] = ⊤
+ArePromised o pages (e ∷ past) = IsPromised o pages (entries past) (own (caller_of e) past) e × ArePromised o pages past

@@ -17,7 +17,7 @@ use Rattle.trail.specs.declared.event.Entry.{Entry}
 use Rattle.trail.specs.declared.event.Receipt.{Receipt}
 use Rattle.trail.specs.declared.event.Event.{Event}
 use Rattle.trail.specs.declared.event.Event.TheVariants as event
-use Rattle.trail.specs.Events.{Events}
+use Rattle.trail.specs.Trails.{Events}
 
 -- a number behind a blank
 abbrev pub field : ℕ → List ℕ

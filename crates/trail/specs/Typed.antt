@@ -14,7 +14,7 @@ use Rattle.trail.specs.declared.event.Note.{Note}
 use Rattle.trail.specs.declared.event.Note.TheVariants as note
 use Rattle.trail.specs.declared.event.Event.{Event}
 use Rattle.trail.specs.declared.event.Event.TheVariants as event
-use Rattle.trail.specs.Events.{Events}
+use Rattle.trail.specs.Trails.{Events}
 
 abbrev pub IsByte : ℕ → Type 0
 IsByte n = n < 2 ^ 8

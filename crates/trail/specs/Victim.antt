@@ -1,8 +1,7 @@
 -- Which page leaves for another one (buf0lru's `buf_LRU_get_free_block`), and when none can.
-use Rattle.std.specs.Prelude.{ℕ, Bool, true, false, not, List, [], ◌∷◌, ◌++◌, ◌≡◌, ◌==◌, ◌&&◌, ◌*◌, ◌<◌, None, Some, Contains, IsPermutation, filter, map, reverse, ⊤, if◌then◌else◌}
-use Rattle.std.specs.List.{list_any}
-use Rattle.page_ids.specs.Chunks.{rising}
-use Rattle.page_ids.specs.FrameWord.{fixes_of, is_resident, clock_of}
+use Rattle.std.specs.Prelude.{ℕ, Bool, false, not, List, [], ◌∷◌, ◌++◌, ◌≡◌, ◌==◌, ◌&&◌, Option, None, Some, IsSomeAnd, IsTrue, filter, length, map, reverse, ⊤, if◌then◌else◌}
+use Rattle.std.specs.List.{AllByRecursion, list_any}
+use Rattle.std.specs.Option.{option_map, option_map_or}
 use Rattle.page_ids.specs.Midpoint.{Listed}
 use Rattle.page_ids.specs.Same.{same_page}
 use Rattle.page_ids.specs.declared.config.Config.{Config}
@@ -13,12 +12,13 @@ use Rattle.trail.specs.declared.event.Kind.TheVariants as kind
 use Rattle.trail.specs.declared.event.Entry.{Entry}
 use Rattle.trail.specs.declared.event.Event.{Event}
 use Rattle.trail.specs.declared.event.Event.TheVariants as event
-use Rattle.trail.specs.Places.{entries}
-use Rattle.trail.specs.History.{home, change}
+use Rattle.trail.specs.Trails.{Opening}
+use Rattle.trail.specs.Kinds.{Writing, write_in}
+use Rattle.trail.specs.History.{home}
 use Rattle.trail.specs.Dirt.{is_dirty}
 use Rattle.trail.specs.Order.{order}
-use Rattle.trail.specs.Book.{Book, book}
-use Rattle.trail.specs.Opening.{Opening}
+use Rattle.trail.specs.Book.{book, is_in, frames_there}
+use Rattle.trail.specs.Words.{frames_of, AreFixedWords}
 
 -- the resident pages from the LRU tail towards the head
 abbrev pub from_the_tail : Config → List Entry → List PageId
@@ -28,60 +28,30 @@ from_the_tail c h = reverse (map (λ (x : Listed PageId). x.key) (order c h).lis
 abbrev pub walk : Config → List Entry → List PageId
 walk c h = filter (λ p. not (is_dirty h p)) (from_the_tail c h) ++ filter (λ p. is_dirty h p) (from_the_tail c h)
 
--- a word that was found on the frame of a page that can't leave: it is resident, has the frame's clock and at least one fix
-pub record IsFixedWord (h : List Entry) (f : ℕ) (w : Word) : Type 0 where
-  pub resident : is_resident w ≡ true
-  pub clock : clock_of w ≡ change h f
-  pub fixed : 0 < fixes_of w
+-- the pages before this one in the walk, where it is there
+abbrev pub before_of : PageId → List PageId → Option (List PageId)
+before_of p [] = None
+before_of p (q ∷ pages) = if same_page q p then Some [] else option_map (λ ahead. q ∷ ahead) (before_of p pages)
 
-abbrev pub AreFixedWords : List Entry → List (ℕ × Word) → Type 0
-AreFixedWords h [] = ⊤
-AreFixedWords h (x ∷ xs) = IsFixedWord h x.0 x.1 × AreFixedWords h xs
-
-abbrev pub frames_of : List (ℕ × Word) → List ℕ
-frames_of words = map (λ (x : ℕ × Word). x.0) words
+-- whether the frame is the home of one of these pages
+abbrev pub is_home_of : List Entry → List PageId → ℕ → Bool
+is_home_of h pages f = list_any (λ q. option_map_or (λ g. g == f) (home h q) false) pages
 
 -- the words are those of just these pages, each found on its page's home
 pub record ArePassed (h : List Entry) (pages : List PageId) (passed : List (ℕ × Word)) : Type 0 where
-  pub each : (q : PageId) → Contains pages q → (f : ℕ) × (home h q ≡ Some f) × Contains (frames_of passed) f
-  pub only : (f : ℕ) → Contains (frames_of passed) f → (q : PageId) × Contains pages q × (home h q ≡ Some f)
+  pub each : AllByRecursion (λ q. IsSomeAnd (home h q) (λ f. IsTrue (is_in f (frames_of passed)))) pages
+  pub only : AllByRecursion (λ f. IsTrue (is_home_of h pages f)) (frames_of passed)
   pub fixed : AreFixedWords h passed
-
--- whether an entry of this kind is a write of the page, whoever made it
-abbrev pub is_write_of : PageId → Kind → Bool
-is_write_of p (kind.Load q f) = false
-is_write_of p (kind.Fix q f clock now) = false
-is_write_of p (kind.Create q f start end now) = false
-is_write_of p (kind.Put q at bytes start end) = false
-is_write_of p (kind.Evict q f passed) = false
-is_write_of p (kind.Write q lsn upto) = same_page q p
-is_write_of p (kind.Move q from to) = false
-is_write_of p (kind.Withdraw from) = false
-is_write_of p (kind.Undo from) = false
-is_write_of p (kind.Shrink chunks) = false
-is_write_of p (kind.Grow chunks) = false
-is_write_of p (kind.Resize bytes chunks) = false
-is_write_of p (kind.Clean written skipped) = false
-is_write_of p (kind.Check lsn) = false
-is_write_of p (kind.WatchSet q) = false
-is_write_of p (kind.WatchAt q f) = false
-is_write_of p (kind.Occurred q arrived) = false
-is_write_of p (kind.Unwatch q) = false
-is_write_of p (kind.Dump pct ids) = false
-is_write_of p (kind.Refused asked why) = false
 
 -- the history before the call's own write of the page, where that is the newest entry
 abbrev pub before_write : ℕ → ℕ → PageId → List Entry → List Entry
 before_write c n p [] = []
-before_write c n p (e ∷ h) = if (e.caller == c) && (e.number == n) && is_write_of p e.kind then h else e ∷ h
+before_write c n p (e ∷ h) = if (e.caller == c) && (e.number == n) && option_map_or (λ (w : Writing). same_page w.page p) (write_in e.kind) false then h else e ∷ h
 
 -- The page that leaves is the first one of the walk that had no fixes: each page before it was passed. No frame was free.
 pub record IsSought (c : Config) (h : List Entry) (p : PageId) (passed : List (ℕ × Word)) : Type 0 where
-  pub before : List PageId
-  pub after : List PageId
   pub none_free : (book c h).free ≡ []
-  pub split : walk c h ≡ before ++ p ∷ after
-  pub passed_are : ArePassed h before passed
+  pub passed_are : IsSomeAnd (before_of p (walk c h)) (λ ahead. ArePassed h ahead passed)
 
 -- An evict by this call, judged by the state before the call's own write of the page.
 pub record IsVictimOf (c : Config) (h : List Entry) (caller number : ℕ) (p : PageId) (f : ℕ) (passed : List (ℕ × Word)) : Type 0 where
@@ -90,41 +60,21 @@ pub record IsVictimOf (c : Config) (h : List Entry) (caller number : ℕ) (p : P
   pub housed : home h p ≡ Some f
 
 abbrev pub IsVictimKind : Config → List Entry → ℕ → ℕ → Kind → Type 0
-IsVictimKind c h caller number (kind.Load p f) = ⊤
-IsVictimKind c h caller number (kind.Fix p f clock now) = ⊤
-IsVictimKind c h caller number (kind.Create p f start end now) = ⊤
-IsVictimKind c h caller number (kind.Put p at bytes start end) = ⊤
 IsVictimKind c h caller number (kind.Evict p f passed) = IsVictimOf c h caller number p f passed
-IsVictimKind c h caller number (kind.Write p lsn upto) = ⊤
-IsVictimKind c h caller number (kind.Move p from to) = ⊤
-IsVictimKind c h caller number (kind.Withdraw from) = ⊤
-IsVictimKind c h caller number (kind.Undo from) = ⊤
-IsVictimKind c h caller number (kind.Shrink chunks) = ⊤
-IsVictimKind c h caller number (kind.Grow chunks) = ⊤
-IsVictimKind c h caller number (kind.Resize bytes chunks) = ⊤
-IsVictimKind c h caller number (kind.Clean written skipped) = ⊤
-IsVictimKind c h caller number (kind.Check lsn) = ⊤
-IsVictimKind c h caller number (kind.WatchSet p) = ⊤
-IsVictimKind c h caller number (kind.WatchAt p f) = ⊤
-IsVictimKind c h caller number (kind.Occurred p arrived) = ⊤
-IsVictimKind c h caller number (kind.Unwatch p) = ⊤
-IsVictimKind c h caller number (kind.Dump pct ids) = ⊤
-IsVictimKind c h caller number (kind.Refused asked why) = ⊤
+IsVictimKind c h caller number _ = ⊤
 
-abbrev pub IsVictim : Opening → List Event → Event → Type 0
-IsVictim o past (event.Entry e) = IsVictimKind o.config (entries past) e.caller e.number e.kind
-IsVictim o past (event.Receipt r) = ⊤
+abbrev pub IsVictim : Opening → List Entry → Event → Type 0
+IsVictim o h (event.Entry e) = IsVictimKind o.config h e.caller e.number e.kind
+IsVictim o h (event.Receipt r) = ⊤
 
-abbrev pub is_in : ℕ → List ℕ → Bool
-is_in f fs = list_any (λ g. g == f) fs
+-- just these frames, which are apart, each one once and in whatever order
+pub record AreJust (frames told : List ℕ) : Type 0 where
+  pub each : AllByRecursion (λ f. IsTrue (is_in f told)) frames
+  pub count : length told ≡ length frames
 
--- the frames of the chunks, rising, without those that are withdrawn
-abbrev pub frames_there : ℕ → Book → List ℕ
-frames_there per b = filter (λ f. not (is_in f b.withdrawn)) (rising 0 (b.chunks * per))
-
--- No frame was free, and each one was found with a fix: each is told once, in whatever order.
+-- No frame was free, and each one was found with a fix.
 pub record AreAllFixed (c : Config) (h : List Entry) (p : PageId) (seen : List (ℕ × Word)) : Type 0 where
   pub absent : home h p ≡ None
   pub none_free : (book c h).free ≡ []
-  pub frames : IsPermutation (frames_there c.frames (book c h)) (frames_of seen)
+  pub frames : AreJust (frames_there c.frames (book c h)) (frames_of seen)
   pub fixed : AreFixedWords h seen

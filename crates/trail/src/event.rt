@@ -311,7 +311,7 @@ pub struct Trail {
 }
 
 impl Model for Trail {
-    ghost use Rattle.trail.specs.Events.{Events};
+    ghost use Rattle.trail.specs.Trails.{Events};
 
     ghost Value = { Events };
 

@@ -7,13 +7,13 @@ ghost use Rattle.trail.specs.declared.event.Dirty.{Dirty};
 ghost use Rattle.trail.specs.declared.event.Entry.{Entry};
 ghost use Rattle.trail.specs.declared.event.Kind.TheVariants as kind;
 ghost use Rattle.trail.specs.History.{value};
-ghost use Rattle.trail.specs.Covered.{AreDurable};
+ghost use Rattle.trail.specs.Saved.{AreDurable};
 ghost use Rattle.trail.specs.Dirt.{dirty, dirt_of, is_dirty, log_end};
 ghost use Rattle.trail.specs.Saved.{is_written, saved};
 ghost use Rattle.trail.specs.declared.event.Event.{Event};
-ghost use Rattle.trail.specs.Places.{entries};
-ghost use Rattle.trail.specs.Opening.{Opening};
-ghost use Rattle.trail.specs.Laws.{IsGood};
+ghost use Rattle.trail.specs.Trails.{entries};
+ghost use Rattle.trail.specs.Trails.{Opening};
+ghost use Rattle.trail.specs.Laws.{AreLawful};
 
 /// The disk has the value of each page that isn't dirty, and what it gave at first of each page that was never written.
 /// A dirty page's newest LSN is that of its value.
@@ -42,15 +42,15 @@ pub fn dirty_pages_are_apart()
 
 /// Where no page is dirty the log was made durable behind the last change, since no image precedes its log.
 pub fn a_clean_history_is_durable()
-    ensures { (o : Opening) (past : List Event) (durable : ℕ) → IsGood o past → AreDurable durable (entries past)
+    ensures { (o : Opening) (past : List Event) (durable : ℕ) → AreLawful o past → AreDurable durable (entries past)
         → dirty (entries past) ≡ [] → log_end (entries past) ≤ durable }
 {}
 
 /// In a trail that is lawful so far the dirty pages rise by their oldest LSN, so the first one has the least; and the log ends at or
 /// behind the last change of each.
 pub fn dirty_pages_rise()
-    ensures rising { (o : Opening) (past : List Event) (i j : ℕ) (d later : Dirty) → IsGood o past → i < j
+    ensures rising { (o : Opening) (past : List Event) (i j : ℕ) (d later : Dirty) → AreLawful o past → i < j
         → slice_get (dirty (entries past)) i ≡ Some d → slice_get (dirty (entries past)) j ≡ Some later → d.oldest < later.oldest }
-    ensures within { (o : Opening) (past : List Event) (i : ℕ) (d : Dirty) → IsGood o past → slice_get (dirty (entries past)) i ≡ Some d
+    ensures within { (o : Opening) (past : List Event) (i : ℕ) (d : Dirty) → AreLawful o past → slice_get (dirty (entries past)) i ≡ Some d
         → (d.oldest < d.newest) × (d.newest ≤ log_end (entries past)) }
 {}

@@ -9,8 +9,6 @@ pub mod event;
 pub mod laws;
 pub mod merging;
 pub mod spelling;
-#[cfg(test)]
-mod tests;
 
 pub use event::{Call, Cause, Dirty, Entry, Event, Held, Kind, Note, Receipt, Trail};
 pub use laws::{

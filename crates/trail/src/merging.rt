@@ -1,6 +1,6 @@
 //! Puts receipts behind the entries of their places.
 ghost use Rattle.std.specs.Prelude.{ℕ, List, [], ◌∷◌, ◌++◌, ◌≡◌, ◌≤◌, ◌+◌, reverse, vec_len, vec_capacity, MatchOption};
-ghost use Rattle.trail.specs.Places.{mark, AreNumbered, AreWithin, entries, receipts};
+ghost use Rattle.trail.specs.Trails.{mark, AreNumbered, AreWithin, entries, receipts};
 ghost use Rattle.trail.specs.Merging.{lists, receipts_in, told, merged, AllWithin, IsPlaced};
 ghost use Rattle.trail.specs.Backward.{here, after, taken, rests, turned};
 ghost use Rattle.trail.specs.declared.event.Event.{Event};

@@ -2,7 +2,7 @@
 ghost use Rattle.std.specs.Prelude.{ℕ, ◌≡◌, ◌++◌, Some, OnOk, OnErr, count_by};
 ghost use Rattle.trail.specs.Spelling.{call_text, cause_text, kind_text, note_text, entry_text, receipt_text};
 ghost use Rattle.trail.specs.Spelling.{event_text, trail_text, lines_text, is_entry, Begins};
-ghost use Rattle.trail.specs.Events.{Events};
+ghost use Rattle.trail.specs.Trails.{Events};
 ghost use Rattle.trail.specs.Typed.{TrailFits};
 
 use crate::event::{Call, Cause, Entry, Event, Kind, Note, Receipt, Trail};

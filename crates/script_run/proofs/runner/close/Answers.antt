@@ -5,7 +5,6 @@ use Rattle.trail.specs.declared.event.Entry.{Entry}
 use Rattle.trail.specs.Dirt.{dirty}
 use Rattle.desk.specs.declared.calls.CleanErr.{CleanErr}
 use Rattle.desk.specs.Changes.{IsCleanRefusal}
-use Rattle.script_run.specs.Work.{senses}
 use Rattle.script_run.specs.Runs.{IsClosed}
 use Rattle.script_run.proofs.Framing.{all_told}
 use Rattle.script_run.proofs.Flushing.{runner, write_backs}
@@ -19,15 +18,15 @@ none_left written left dirt frames new all few less (inr none) = none
 
 pub clean_at-requires-clause-alone : goal.clean_at-requires-clause-alone
 clean_at-requires-clause-alone g c κs within =
-    let sense = senses g.D.PageDisk.page_size g.D.PageDisk.tells g.D.PageDisk.told g.D.PageDisk.space_pages g.D.PageDisk.fault_count in
-    all_told sense c.args.desk.now.state c.args.frames.now [] c.requires.ready
+    let seen = g.D.PageDisk.seen in
+    all_told seen c.args.desk.now.state c.args.frames.now [] c.requires.ready
 
 pub returns-clause-closed : goal.returns-clause-closed
 returns-clause-closed g c =
     let old = c.args.desk.now.state in
     let new = c.clean_at.new.self.state in
     let P : Result (Option FaultAt) OutOfMemory → Type 0 = λ r. IfOk r (λ fault. IsClosed old new fault) in
-    let R : CleanErr → Type 0 = λ e. IsCleanRefusal old new runner 16384 true (g.D.PageDisk.fault_count old.disk) (g.D.PageDisk.fault_count new.disk) c.args.redo.now.seen.faults c.clean_at.new.redo.seen.faults e in
+    let R : CleanErr → Type 0 = λ e. IsCleanRefusal old new runner 16384 true (g.D.PageDisk.seen old.disk).faults (g.D.PageDisk.seen new.disk).faults c.args.redo.now.seen.faults c.clean_at.new.redo.seen.faults e in
     elim c.match-clean_at.branch [
       | in-Ok w ↦
           let ok = w.in-Ok.ensures.ok.1 in

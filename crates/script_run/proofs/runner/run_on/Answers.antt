@@ -7,17 +7,17 @@ use Rattle.page_ids.specs.Content.{Content}
 use Rattle.page_ids.specs.Size.{page_bytes}
 use Rattle.page_ids.specs.declared.ids.PageId.{PageId}
 use Rattle.page_ids.specs.declared.config.Config.{Config}
-use Rattle.page_disk.specs.Disks.{pages_in}
+use Rattle.page_ids.specs.declared.limits.TheConstants.{LIMIT}
+use Rattle.page_disk.specs.Disks.{DiskSeen, pages_in}
 use Rattle.redo_mark.specs.Device.{Told}
 use Rattle.redo_mark.specs.Logs.{Seen, IsAllKept}
 use Rattle.trail.specs.declared.event.Entry.{Entry}
 use Rattle.trail.specs.declared.event.Receipt.{Receipt}
 use Rattle.trail.specs.declared.event.Event.{Event}
 use Rattle.trail.specs.declared.event.Held.{Held}
-use Rattle.trail.specs.Opening.{Opening}
+use Rattle.trail.specs.Trails.{Opening, AreNumbered, mark, entries}
 use Rattle.trail.specs.Merging.{lists, merged, AllWithin}
-use Rattle.trail.specs.Places.{AreNumbered, mark, entries}
-use Rattle.trail.specs.Covered.{AreDurable}
+use Rattle.trail.specs.Saved.{AreDurable}
 use Rattle.trail.specs.Dirt.{dirty, log_end}
 use Rattle.desk.specs.Base.{Opened, IsBase}
 use Rattle.desk.specs.Behind.{IsOpening}
@@ -33,21 +33,22 @@ use Rattle.script_text.specs.declared.script.Command.{Command}
 use Rattle.script_text.specs.declared.script.Command.TheVariants as command
 use Rattle.script_text.specs.Grammar.{calls_of, calls_in}
 use Rattle.script_run.specs.Openings.{Start, opening_of, opened_of, AreFaultsWithin}
-use Rattle.script_run.specs.Work.{Senses, Working, SoFar, StandsBehind, Worked, IsReady, IsBehindIt, AreInChunk, AreApart, senses}
+use Rattle.script_run.specs.Work.{Working, SoFar, StandsBehind, Worked, IsReady, IsBehindIt, AreInChunk, AreApart}
 use Rattle.script_run.specs.Workers.{working}
 use Rattle.script_run.specs.Runs.{IsDiskOf, KeepsRecords, KeepsRecordsBelow, EndsBehind, reports}
 use Rattle.script_run.proofs.Finished.{so_far_new, finished, Merges}
 use Rattle.script_run.proofs.Growing.{on_some}
-use Rattle.script_run.proofs.Resting.{ends_behind, are_durable, are_kept, are_kept_below, extended, long_of, disk_of}
+use Rattle.script_run.proofs.Telling.{ends_behind}
+use Rattle.script_run.proofs.Resting.{are_durable, are_kept, are_kept_below, extended, long_of, disk_of}
 use Rattle.script_run.proofs.runner.run_on.Goals as goal
 
 none_held : {A : Type 0} (xs : List A) → reverse xs ≡ [] → length xs ≡ 0
 none_held xs e = sym (length-reverse xs) ∙ ap (length {A = _}) e
 
 -- a desk with an empty history and its blank frames are ready
-ready_new : {D : Type 0} (sense : Senses D) (desk : State D) (frames : Plain) → AreTied sense.tells sense.told sense.spaces (seen_of frames) desk → desk.history ≡ []
-    → ((f : ℕ) → f < length frames.rows → (row_in frames.rows f).held ≡ Some 0) → IsReady sense desk frames []
-ready_new sense desk frames tied none unfixed = record {
+ready_new : {D : Type 0} (seen : D → DiskSeen) (desk : State D) (frames : Plain) → AreTied seen (seen_of frames) desk → desk.history ≡ []
+    → ((f : ℕ) → f < length frames.rows → (row_in frames.rows f).held ≡ Some 0) → IsReady seen desk frames []
+ready_new seen desk frames tied none unfixed = record {
   tied = tied;
   homes = let H : List Entry → Type 0 = λ h. AreInChunk desk.config h in subst H (sym none) (λ p f here. absurd (cc));
   apart = let A : List Entry → Type 0 = λ h. AreApart h in subst A (sym none) (λ p q f here there. absurd (cc));
@@ -64,10 +65,10 @@ new-requires-clause-start g c κs within =
 
 pub work-requires-clause-ready : goal.work-requires-clause-ready
 work-requires-clause-ready g c κs within =
-    let sense = senses g.D.PageDisk.page_size g.D.PageDisk.tells g.D.PageDisk.told g.D.PageDisk.space_pages g.D.PageDisk.fault_count in
-    let R : List Held → Type 0 = λ fixed. IsReady sense c.in-Ok-new.desk.state c.in_ok-frames.frames fixed in
+    let seen = g.D.PageDisk.seen in
+    let R : List Held → Type 0 = λ fixed. IsReady seen c.in-Ok-new.desk.state c.in_ok-frames.frames fixed in
     subst R (sym (ap (λ (w : Working). w.fixed) c.new-worker.ensures))
-    (ready_new sense c.in-Ok-new.desk.state c.in_ok-frames.frames c.in_ok-frames.ensures.tied c.in-Ok-new.ensures.fresh.history c.in_ok-frames.ensures.unfixed)
+    (ready_new seen c.in-Ok-new.desk.state c.in_ok-frames.frames c.in_ok-frames.ensures.tied c.in-Ok-new.ensures.fresh.history c.in_ok-frames.ensures.unfixed)
 
 pub work-requires-clause-new : goal.work-requires-clause-new
 work-requires-clause-new g c κs within = none_held c.new-worker.result.fixed.items (ap (λ (w : Working). w.fixed) c.new-worker.ensures)
@@ -95,7 +96,7 @@ all_calls (c ∷ commands) =
     omega (arith, more, one_call c, all_calls commands)
 
 -- a script has few commands, and no entry yet
-few_places : (first n calls : ℕ) (history : List Entry) → first ≡ 0 → history ≡ [] → calls ≡ n → calls ≤ 65536 → first + 2 * length history + 32770 * n < 2 ^ 48
+few_places : (first n calls : ℕ) (history : List Entry) → first ≡ 0 → history ≡ [] → calls ≡ n → calls ≤ 65536 → first + 2 * length history + 32770 * n ≤ LIMIT
 few_places first n calls history start none same few = omega (arith, start, ap (length {A = Entry}) none, same, few)
 
 few_numbers : (next n calls : ℕ) → next ≡ 1 → calls ≡ n → calls ≤ 65536 → next + n + 64 < 2 ^ 32
@@ -103,6 +104,9 @@ few_numbers next n calls start same few = omega (arith, start, same, few)
 
 few_more : (first n calls was is soiled : ℕ) → first ≡ 0 → was ≡ 0 → calls ≡ n → calls ≤ 65536 → is ≤ was + 16385 * n → soiled ≤ is → first + is + soiled + 1 < 2 ^ 48
 few_more first n calls was is soiled start none same few grown less = omega (arith, start, none, same, few, grown, less)
+
+few_left : (first n calls was is : ℕ) → first ≡ 0 → was ≡ 0 → calls ≡ n → calls ≤ 65536 → is ≤ was + 16385 * n → first + is + 16385 ≤ LIMIT
+few_left first n calls was is start none same few grown = omega (arith, start, none, same, few, grown)
 
 pub work-requires-clause-places : goal.work-requires-clause-places
 work-requires-clause-places g c κs within =
@@ -128,15 +132,12 @@ close-requires-clause-places g c κs within =
 pub returns-clause-run : goal.returns-clause-run
 returns-clause-run g c =
     let D = g.row.D.Denot in
-    let tells = g.D.PageDisk.tells in
-    let told = g.D.PageDisk.told in
-    let spaces = g.D.PageDisk.space_pages in
-    let sense = senses g.D.PageDisk.page_size tells told spaces g.D.PageDisk.fault_count in
+    let seen = g.D.PageDisk.seen in
     let report = reports g.R.RedoDisk.told g.R.RedoDisk.opened g.R.RedoDisk.fault_count in
     let plan = c.args.script.now in
     let disk : D = c.args.disk in
     let last : D = c.end-disk.result.0 in
-    let start : Start = record { told = told disk; disk_faults = sense.faults disk; log_faults = report.faults c.args.log } in
+    let start : Start = record { told = (seen disk).told; pages = pages_in (seen last).spaces; disk_faults = (seen disk).faults; log_faults = report.faults c.args.log } in
     let frames = c.in_ok-frames.frames in
     let desk = c.work.new.desk.state in
     let new = c.close.new.desk.state in
@@ -159,35 +160,39 @@ returns-clause-run g c =
     let merges = subst N listed (subst M (ap (λ (x : Config). x.first) config_is) c.merge-trail.ensures.events) in
     let law : Merges = record { numbered = c.one_account_merges.ensures.numbered; within = c.one_account_merges.ensures.within; merged_is = c.one_account_merges.ensures.merged } in
     let front = c.dirty_pages_are_apart.ensures.front in
-    let spaces_are : (s : ℕ) → sense.spaces last s ≡ sense.spaces disk s = λ s.
-    ap (λ d. sense.spaces d s) last_is ∙ c.close.ensures.spaces s ∙ c.in_ok-work.ensures.left.spaces_are s ∙ ap (λ d. sense.spaces d s) fresh.disk_is in
-    let C : List Command → Type 0 = λ commands. (o : Opening) (begin : Start) (past : List Event) → SoFar sense o begin c.in-Ok-new.desk.state c.in-Ok.redo.seen (working c.new-worker.result) past []
-    → StandsBehind sense o begin c.in-Ok-new.desk.state frames → Worked sense o begin desk was w past commands in
+    let spaces_are : (s : ℕ) → (seen last).spaces s ≡ (seen disk).spaces s = λ s.
+    ap (λ d. (seen d).spaces s) last_is ∙ c.close.ensures.spaces s ∙ c.in_ok-work.ensures.left.spaces_are s ∙ ap (λ d. (seen d).spaces s) fresh.disk_is in
+    let C : List Command → Type 0 = λ commands. (o : Opening) (begin : Start) (past : List Event) → SoFar seen o begin c.in-Ok-new.desk.state c.in-Ok.redo.seen (working c.new-worker.result) past []
+    → StandsBehind seen o begin c.in-Ok-new.desk.state frames → Worked seen o begin desk was w past commands in
     let done = subst C c.commands.ensures c.in_ok-work.ensures.done in
-    let opened : (o : Opening) (first : PageId → Option Content) → o.config ≡ plan.config → o.pages ≡ pages_in (sense.spaces last) → IsBase (told disk) o.pages first → IsOpening told spaces (opened_of o start first) (sense.size disk) disk =
-    λ o first config pages based. record {
+    let opened : (o : Opening) (first : PageId → Option Content) → o.config ≡ plan.config → IsBase (seen disk).told start.pages first → IsOpening (opened_of o start first) (seen disk) =
+    λ o first config based. record {
       size_is = c.requires.size ∙ ap (λ (x : Config). page_bytes x.page) (sym config);
-      pages_are = λ s. ap (λ (f : ℕ → ℕ). f s) pages ∙ ap (λ n. unwrap_or n 0) (spaces_are s);
+      pages_are = λ s. ap (λ n. unwrap_or n 0) (spaces_are s);
       told_are = λ p. refl;
       based = based;
     } in
-    let behind : (o : Opened) → IsOpening told spaces o (sense.size disk) disk → IsBehindIt sense o new c.close.new.frames = λ o opening.
+    let behind : (o : Opened) → IsOpening o (seen disk) → IsBehindIt seen o new c.close.new.frames = λ o opening.
     c.close.ensures.behind o (c.in_ok-work.ensures.behind o (c.in-Ok-new.ensures.behind o (seen_of frames) opening)) in
-    let worked = λ (base : Option (PageId → Option Content)) (based : IfSome base (λ first. IsBase (told disk) (pages_in (sense.spaces last)) first)).
-    let o = opening_of plan.config base (sense.spaces last) in
-    let so = so_far_new sense plan.config base (sense.spaces last) start c.in-Ok-new.desk.state c.in-Ok.redo.seen (working c.new-worker.result) 1 disk fresh c.new-worker.ensures spaces_are
+    let worked = λ (base : Option (PageId → Option Content)) (based : IfSome base (λ first. IsBase (seen disk).told (pages_in (seen last).spaces) first)).
+    let o = opening_of plan.config base in
+    let so = so_far_new seen plan.config base start c.in-Ok-new.desk.state c.in-Ok.redo.seen (working c.new-worker.result) 1 disk fresh c.new-worker.ensures (λ s. ap (λ n. unwrap_or n 0) (spaces_are s))
     (omega arith) (omega (arith, c.in-Ok.ensures.fresh.faults)) in
-    let stands : StandsBehind sense o start c.in-Ok-new.desk.state frames = on_some base _ _ (λ first e is_base. c.in-Ok-new.ensures.behind (opened_of o start first) (seen_of frames) (opened o first refl refl is_base)) based in
+    let stands : StandsBehind seen o start c.in-Ok-new.desk.state frames = on_some base _ _ (λ first e is_base. c.in-Ok-new.ensures.behind (opened_of o start first) (seen_of frames) (opened o first refl is_base)) based in
     done o start [] so stands in
-    let all = λ (base : Option (PageId → Option Content)) (based : IfSome base (λ first. IsBase (told disk) (pages_in (sense.spaces last)) first)).
-    finished sense (opening_of plan.config base (sense.spaces last)) start desk new was is w (commands_of plan) fault history account trail front
+    let left : desk.config.first + length desk.history + 16385 ≤ LIMIT =
+    few_left desk.config.first (length c.commands.result.now) (calls_in (commands_of plan)) (length c.in-Ok-new.desk.state.history) (length desk.history)
+    (ap (λ (x : Config). x.first) (c.in_ok-work.ensures.left.config ∙ c.in-Ok-new.ensures.fresh.config_is ∙ c.config-config.ensures) ∙ c.requires.script.config.first)
+    (ap (length {A = Entry}) c.in-Ok-new.ensures.fresh.history) (all_calls (commands_of plan) ∙ ap (length {A = Command}) (sym c.commands.ensures)) c.requires.script.calls c.in_ok-work.ensures.grown in
+    let all = λ (base : Option (PageId → Option Content)) (based : IfSome base (λ first. IsBase (seen disk).told (pages_in (seen last).spaces) first)).
+    finished seen (opening_of plan.config base) start desk new was is w (commands_of plan) fault history account trail front
     (c.in_ok-work.ensures.pass ∙ ap (λ (x : Working). x.pass) c.new-worker.ensures) (worked base based)
     c.in_ok-fault.ensures.closed c.in_ok-fault.ensures.fault c.end-disk.ensures.history c.into_account-account.ensures law
-    (c.merge-trail.ensures.first ∙ ap (λ (x : Config). x.first) config_is) merges c.close.ensures.counted c.close.ensures.later.faults in
-    let o = opening_of plan.config None (sense.spaces last) in
+    (c.merge-trail.ensures.first ∙ ap (λ (x : Config). x.first) config_is) merges c.close.ensures.counted c.close.ensures.later.faults left in
+    let o = opening_of plan.config None in
     let one = all None tt in
     let here : entries (reverse trail.events) ≡ new.history = one.1 in
-    let L : D → ℕ → List Entry → Type 0 = λ d n h. AreFaultsWithin start (sense.faults d) n h in
+    let L : D → ℕ → List Entry → Type 0 = λ d n h. AreFaultsWithin start (seen d).faults n h in
     let first_is : is.first ≡ plan.config.lsn = c.close.ensures.later.first ∙ c.in_ok-work.ensures.log.first ∙ c.in-Ok.ensures.fresh.first ∙ ap (λ (x : Config). x.lsn) config_is in
     let past : List Event = reverse trail.events in
     let good = one.0.lawful.each in
@@ -214,10 +219,10 @@ returns-clause-run g c =
       faults = subst (λ h. L last (report.faults end.disk) h) (sym here) (subst (λ n. L last n new.history) c.close-redo.ensures.faults (subst (λ d. L d is.faults new.history) (sym last_is) one.2));
       spaces_are = spaces_are;
       holds = λ base is_base.
-          let o = opened_of (opening_of plan.config (Some base) (sense.spaces last)) start base in
-          let stands = behind o (opened (opening_of plan.config (Some base) (sense.spaces last)) base refl refl is_base) in
-          let at = disk_of tells told spaces o new (seen_of c.close.new.frames) fault stands (λ fine p inside. c.clean_disk_holds_the_values.ensures o new (seen_of c.close.new.frames) stands (c.in_ok-fault.ensures.closed.clean fine) p inside) in
-          subst (λ h. IsDiskOf o.size base o.pages (told disk) (told last) fault h) (sym here) (subst (λ d. IsDiskOf o.size base o.pages (told disk) (told d) fault new.history) (sym last_is) at);
+          let o = opened_of (opening_of plan.config (Some base)) start base in
+          let stands = behind o (opened (opening_of plan.config (Some base)) base refl is_base) in
+          let at = disk_of seen o new (seen_of c.close.new.frames) fault stands (λ fine p inside. c.clean_disk_holds_the_values.ensures o new (seen_of c.close.new.frames) stands (c.in_ok-fault.ensures.closed.clean fine) p inside) in
+          subst (λ h. IsDiskOf o.size base start.pages (seen disk).told (seen last).told fault h) (sym here) (subst (λ d. IsDiskOf o.size base start.pages (seen disk).told (seen d).told fault new.history) (sym last_is) at);
       logs = record {
         ends = subst B (sym c.close-redo.ensures.end) (ends_behind o past is good logged (subst K (sym here) c.close.ensures.known));
         durable = c.close-redo.ensures.durable.1;

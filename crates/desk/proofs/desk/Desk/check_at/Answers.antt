@@ -21,9 +21,9 @@ returns-clause-known g c =
 pub returns-clause-tied : goal.returns-clause-tied
 returns-clause-tied g c = λ s tied.
     let checked = returns-clause-ok g c in
-    checked_tied g.D.PageDisk.tells g.D.PageDisk.told g.D.PageDisk.space_pages s c.args.self.now.state c.append_check.new.self.state c.args.by c.checkpoint-lsn.result checked.entry checked.disk tied
+    checked_tied g.D.PageDisk.seen s c.args.self.now.state c.append_check.new.self.state c.args.by c.checkpoint-lsn.result checked.entry checked.disk tied
 
 pub returns-clause-behind : goal.returns-clause-behind
 returns-clause-behind g c = λ o s behind.
     let checked = returns-clause-ok g c in
-    checked_behind g.D.PageDisk.tells g.D.PageDisk.told g.D.PageDisk.space_pages o s c.args.self.now.state c.append_check.new.self.state c.args.by c.checkpoint-lsn.result checked.entry checked.disk behind
+    checked_behind g.D.PageDisk.seen o s c.args.self.now.state c.append_check.new.self.state c.args.by c.checkpoint-lsn.result checked.entry checked.disk behind

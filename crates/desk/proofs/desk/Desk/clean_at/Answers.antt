@@ -39,45 +39,45 @@ append-requires-in-Err-DiskFault-clause-places g c κs within =
 pub returns-in-Ok-clause-sizes : goal.returns-in-Ok-clause-sizes
 returns-in-Ok-clause-sizes g c =
     let left = c.flush.ensures.desk in (
-      ap g.D.PageDisk.page_size c.append.ensures.disk ∙ left.sizes ∙ ap (λ (x : State g.row.D.Denot). g.D.PageDisk.page_size x.disk) c.room_for.ensures.same,
-      λ space. ap (λ d. g.D.PageDisk.space_pages d space) c.append.ensures.disk ∙ left.spaces_are space ∙ ap (λ (x : State g.row.D.Denot). g.D.PageDisk.space_pages x.disk space) c.room_for.ensures.same,
+      ap (λ d. (g.D.PageDisk.seen d).size) c.append.ensures.disk ∙ left.sizes ∙ ap (λ (x : State g.row.D.Denot). (g.D.PageDisk.seen x.disk).size) c.room_for.ensures.same,
+      λ space. ap (λ d. (g.D.PageDisk.seen d).spaces space) c.append.ensures.disk ∙ left.spaces_are space ∙ ap (λ (x : State g.row.D.Denot). (g.D.PageDisk.seen x.disk).spaces space) c.room_for.ensures.same,
     )
 
 pub returns-in-Ok-clause-telling : goal.returns-in-Ok-clause-telling
 returns-in-Ok-clause-telling g c =
-    ap g.D.PageDisk.tells c.append.ensures.disk ∙ c.flush.ensures.desk.telling ∙ ap (λ (x : State g.row.D.Denot). g.D.PageDisk.tells x.disk) c.room_for.ensures.same
+    ap (λ d. (g.D.PageDisk.seen d).tells) c.append.ensures.disk ∙ c.flush.ensures.desk.telling ∙ ap (λ (x : State g.row.D.Denot). (g.D.PageDisk.seen x.disk).tells) c.room_for.ensures.same
 
 pub returns-in-Ok-clause-tied : goal.returns-in-Ok-clause-tied
 returns-in-Ok-clause-tied g c =
-    cleaned_tied g.D.PageDisk.tells g.D.PageDisk.told g.D.PageDisk.space_pages (g.F.Frames.seen c.flush.new.frames) (g.F.Frames.seen c.append.new.frames) c.flush.new.self.state c.append.new.self.state c.args.by c.in-Ok.written c.of-skipped.result
+    cleaned_tied g.D.PageDisk.seen (g.F.Frames.seen c.flush.new.frames) (g.F.Frames.seen c.append.new.frames) c.flush.new.self.state c.append.new.self.state c.args.by c.in-Ok.written c.of-skipped.result
     c.append.ensures.appended c.append.ensures.disk c.append.ensures.seen c.flush.ensures.tied
 
 pub returns-in-Ok-clause-behind : goal.returns-in-Ok-clause-behind
 returns-in-Ok-clause-behind g c = λ o before.
-    let was = subst (λ (x : State g.row.D.Denot). IsBehind g.D.PageDisk.tells g.D.PageDisk.told g.D.PageDisk.space_pages o x (g.F.Frames.seen c.args.frames.now)) (sym c.room_for.ensures.same) before in
-    cleaned_behind g.D.PageDisk.tells g.D.PageDisk.told g.D.PageDisk.space_pages o (g.F.Frames.seen c.flush.new.frames) (g.F.Frames.seen c.append.new.frames) c.flush.new.self.state c.append.new.self.state c.args.by c.in-Ok.written c.of-skipped.result
+    let was = subst (λ (x : State g.row.D.Denot). IsBehind g.D.PageDisk.seen o x (g.F.Frames.seen c.args.frames.now)) (sym c.room_for.ensures.same) before in
+    cleaned_behind g.D.PageDisk.seen o (g.F.Frames.seen c.flush.new.frames) (g.F.Frames.seen c.append.new.frames) c.flush.new.self.state c.append.new.self.state c.args.by c.in-Ok.written c.of-skipped.result
     c.append.ensures.appended c.append.ensures.disk c.append.ensures.seen (c.flush.ensures.behind o was)
 
 pub returns-in-Err-RedoFault-clause-tied : goal.returns-in-Err-RedoFault-clause-tied
 returns-in-Err-RedoFault-clause-tied g c =
-    refused_tied g.D.PageDisk.tells g.D.PageDisk.told g.D.PageDisk.space_pages (g.F.Frames.seen c.flush.new.frames) (g.F.Frames.seen c.append-in-Err-RedoFault.new.frames) c.flush.new.self.state c.append-in-Err-RedoFault.new.self.state c.args.by _ _
+    refused_tied g.D.PageDisk.seen (g.F.Frames.seen c.flush.new.frames) (g.F.Frames.seen c.append-in-Err-RedoFault.new.frames) c.flush.new.self.state c.append-in-Err-RedoFault.new.self.state c.args.by _ _
     c.append-in-Err-RedoFault.ensures.appended c.append-in-Err-RedoFault.ensures.disk c.append-in-Err-RedoFault.ensures.seen c.flush.ensures.tied
 
 pub returns-in-Err-RedoFault-clause-behind : goal.returns-in-Err-RedoFault-clause-behind
 returns-in-Err-RedoFault-clause-behind g c = λ o before.
-    let was = subst (λ (x : State g.row.D.Denot). IsBehind g.D.PageDisk.tells g.D.PageDisk.told g.D.PageDisk.space_pages o x (g.F.Frames.seen c.args.frames.now)) (sym c.room_for.ensures.same) before in
-    refused_behind g.D.PageDisk.tells g.D.PageDisk.told g.D.PageDisk.space_pages o (g.F.Frames.seen c.flush.new.frames) (g.F.Frames.seen c.append-in-Err-RedoFault.new.frames) c.flush.new.self.state c.append-in-Err-RedoFault.new.self.state c.args.by _ _
+    let was = subst (λ (x : State g.row.D.Denot). IsBehind g.D.PageDisk.seen o x (g.F.Frames.seen c.args.frames.now)) (sym c.room_for.ensures.same) before in
+    refused_behind g.D.PageDisk.seen o (g.F.Frames.seen c.flush.new.frames) (g.F.Frames.seen c.append-in-Err-RedoFault.new.frames) c.flush.new.self.state c.append-in-Err-RedoFault.new.self.state c.args.by _ _
     c.append-in-Err-RedoFault.ensures.appended c.append-in-Err-RedoFault.ensures.disk c.append-in-Err-RedoFault.ensures.seen (c.flush.ensures.behind o was)
 
 pub returns-in-Err-DiskFault-clause-tied : goal.returns-in-Err-DiskFault-clause-tied
 returns-in-Err-DiskFault-clause-tied g c =
-    refused_tied g.D.PageDisk.tells g.D.PageDisk.told g.D.PageDisk.space_pages (g.F.Frames.seen c.flush.new.frames) (g.F.Frames.seen c.append-in-Err-DiskFault.new.frames) c.flush.new.self.state c.append-in-Err-DiskFault.new.self.state c.args.by _ _
+    refused_tied g.D.PageDisk.seen (g.F.Frames.seen c.flush.new.frames) (g.F.Frames.seen c.append-in-Err-DiskFault.new.frames) c.flush.new.self.state c.append-in-Err-DiskFault.new.self.state c.args.by _ _
     c.append-in-Err-DiskFault.ensures.appended c.append-in-Err-DiskFault.ensures.disk c.append-in-Err-DiskFault.ensures.seen c.flush.ensures.tied
 
 pub returns-in-Err-DiskFault-clause-behind : goal.returns-in-Err-DiskFault-clause-behind
 returns-in-Err-DiskFault-clause-behind g c = λ o before.
-    let was = subst (λ (x : State g.row.D.Denot). IsBehind g.D.PageDisk.tells g.D.PageDisk.told g.D.PageDisk.space_pages o x (g.F.Frames.seen c.args.frames.now)) (sym c.room_for.ensures.same) before in
-    refused_behind g.D.PageDisk.tells g.D.PageDisk.told g.D.PageDisk.space_pages o (g.F.Frames.seen c.flush.new.frames) (g.F.Frames.seen c.append-in-Err-DiskFault.new.frames) c.flush.new.self.state c.append-in-Err-DiskFault.new.self.state c.args.by _ _
+    let was = subst (λ (x : State g.row.D.Denot). IsBehind g.D.PageDisk.seen o x (g.F.Frames.seen c.args.frames.now)) (sym c.room_for.ensures.same) before in
+    refused_behind g.D.PageDisk.seen o (g.F.Frames.seen c.flush.new.frames) (g.F.Frames.seen c.append-in-Err-DiskFault.new.frames) c.flush.new.self.state c.append-in-Err-DiskFault.new.self.state c.args.by _ _
     c.append-in-Err-DiskFault.ensures.appended c.append-in-Err-DiskFault.ensures.disk c.append-in-Err-DiskFault.ensures.seen (c.flush.ensures.behind o was)
 
 pub returns-then-is_err-clause-count : goal.returns-then-is_err-clause-count
@@ -148,7 +148,7 @@ returns-in-Err-DiskFault-clause-upto g c =
 
 pub returns-in-Err-RedoFault-clause-refused : goal.returns-in-Err-RedoFault-clause-refused
 returns-in-Err-RedoFault-clause-refused g c =
-    let faults = g.D.PageDisk.fault_count in
+    let seen = g.D.PageDisk.seen in
     let old : State g.row.D.Denot = c.args.self.now.state in
     let room : State g.row.D.Denot = c.room_for.new.self.state in
     let mid : State g.row.D.Denot = c.flush.new.self.state in
@@ -157,14 +157,14 @@ returns-in-Err-RedoFault-clause-refused g c =
     let is = c.flush.new.redo.seen.faults in
     let err = c.in-Err-RedoFault.ensures.err in
     let left = c.flush.ensures.desk in
-    let fault = subst (λ e. IsWriteFault (faults room.disk) (faults mid.disk) was is e) c.in-Err-RedoFault.field-0-is c.in-Err-RedoFault.ensures.fault in
+    let fault = subst (λ e. IsWriteFault (seen room.disk).faults (seen mid.disk).faults was is e) c.in-Err-RedoFault.field-0-is c.in-Err-RedoFault.ensures.fault in
     let unused = λ (none : err.0 ≡ 0). (subst (λ e. IsForced room.disk mid.disk ⊤ e) c.in-Err-RedoFault.field-0-is (err.6 none)).1 in
-    refused_by_log faults old room mid new c.args.by c.args.bound err.0 c.args.sync c.room_for.ensures.same err.1 err.2 err.5 left.config left.instance c.append-in-Err-RedoFault.ensures.disk (faults old.disk) (faults new.disk) was is _ _
+    refused_by_log seen old room mid new c.args.by c.args.bound err.0 c.args.sync c.room_for.ensures.same err.1 err.2 err.5 left.config left.instance c.append-in-Err-RedoFault.ensures.disk (seen old.disk).faults (seen new.disk).faults was is _ _
     (rose_is was is _ _ _ _ c.in-Err-RedoFault.before-is c.in-Err-RedoFault.after-is fault) c.append-in-Err-RedoFault.ensures.appended unused
 
 pub returns-in-Err-DiskFault-clause-refused : goal.returns-in-Err-DiskFault-clause-refused
 returns-in-Err-DiskFault-clause-refused g c =
-    let faults = g.D.PageDisk.fault_count in
+    let seen = g.D.PageDisk.seen in
     let old : State g.row.D.Denot = c.args.self.now.state in
     let room : State g.row.D.Denot = c.room_for.new.self.state in
     let mid : State g.row.D.Denot = c.flush.new.self.state in
@@ -173,9 +173,9 @@ returns-in-Err-DiskFault-clause-refused g c =
     let is = c.flush.new.redo.seen.faults in
     let err = c.in-Err-DiskFault.ensures.err in
     let left = c.flush.ensures.desk in
-    let fault = subst (λ e. IsWriteFault (faults room.disk) (faults mid.disk) was is e) c.in-Err-DiskFault.field-0-is c.in-Err-DiskFault.ensures.fault in
-    refused_by_disk faults old room mid new c.args.by c.args.bound err.0 c.args.sync c.room_for.ensures.same err.1 err.2 err.5 left.config left.instance c.append-in-Err-DiskFault.ensures.disk was is _ _
-    (rose_is (faults room.disk) (faults mid.disk) _ _ _ _ c.in-Err-DiskFault.before-is c.in-Err-DiskFault.after-is fault) c.append-in-Err-DiskFault.ensures.appended
+    let fault = subst (λ e. IsWriteFault (seen room.disk).faults (seen mid.disk).faults was is e) c.in-Err-DiskFault.field-0-is c.in-Err-DiskFault.ensures.fault in
+    refused_by_disk seen old room mid new c.args.by c.args.bound err.0 c.args.sync c.room_for.ensures.same err.1 err.2 err.5 left.config left.instance c.append-in-Err-DiskFault.ensures.disk was is _ _
+    (rose_is (seen room.disk).faults (seen mid.disk).faults _ _ _ _ c.in-Err-DiskFault.before-is c.in-Err-DiskFault.after-is fault) c.append-in-Err-DiskFault.ensures.appended
 
 pub returns-in-Ok-clause-unused : goal.returns-in-Ok-clause-unused
 returns-in-Ok-clause-unused g c = λ unsynced few.

@@ -26,8 +26,8 @@ append-requires-clause-frames g c = λ κs within.
     let kept : mid ≡ on_disk desk mid.disk = ap (λ x. x.state) c.in-Ok.ensures.kept in
     subst (λ (u : FramesSeen). MayAppend u (next_entry mid c.args.by k)) (sym c.in-Ok.ensures.seen)
     (subst (λ (m : State g.row.D.Denot). MayAppend s (next_entry m c.args.by k)) (sym kept)
-    (may_append P.tells P.told P.space_pages s (on_disk desk mid.disk) c.args.by k tt but.history c.requires.turn but.none_owed
-    (published_but P.tells P.told P.space_pages s desk v.page v.frame but) (λ is. (but.own is v.page v.frame but.housed, tt)) tt
+    (may_append P.seen s (on_disk desk mid.disk) c.args.by k tt but.history c.requires.turn but.none_owed
+    (published_but P.seen s desk v.page v.frame but) (λ is. (but.own is v.page v.frame but.housed, tt)) tt
     (each_some s.opened (λ o. FitsOpen o k) (λ o is. tt)) (each_some s.found (λ found. AreFound found []) (λ found is. tt))))
 
 pub returns-in-Ok-clause-clean : goal.returns-in-Ok-clause-clean
@@ -47,7 +47,7 @@ returns-in-Ok-clause-but g c =
     let kept : mid ≡ on_disk c.args.self.now.state mid.disk = ap (λ x. x.state) c.in-Ok.ensures.kept in
     let written = c.in-Ok.ensures.written but.content but.image in
     let looks = c.append.ensures.seen ∙ ap (λ (u : FramesSeen). Rattle.frame_words.specs.Appends.appended u (next_entry mid c.args.by (kind.Write v.page c.in-Ok.lsn c.in-Ok.upto))) c.in-Ok.ensures.seen in
-    wrote_but P.tells P.told P.space_pages P.page_size P.fault_count (g.F.Frames.seen c.args.frames.now) (g.F.Frames.seen c.append.new.frames) c.args.self.now.state mid c.append.new.self.state c.args.by v.page v.frame c.in-Ok.lsn c.in-Ok.upto
+    wrote_but P.seen (g.F.Frames.seen c.args.frames.now) (g.F.Frames.seen c.append.new.frames) c.args.self.now.state mid c.append.new.self.state c.args.by v.page v.frame c.in-Ok.lsn c.in-Ok.upto
     written.bytes but kept written.page c.in-Ok.ensures.others written.tells_it (λ silent. laws.silent mid.disk v.page silent) c.append.ensures.appended c.append.ensures.disk looks
 
 pub returns-in-Ok-clause-behind : goal.returns-in-Ok-clause-behind
@@ -60,7 +60,7 @@ returns-in-Ok-clause-behind g c = λ o before.
     let kept : mid ≡ on_disk c.args.self.now.state mid.disk = ap (λ x. x.state) c.in-Ok.ensures.kept in
     let written = c.in-Ok.ensures.written but.content but.image in
     let looks = c.append.ensures.seen ∙ ap (λ (u : FramesSeen). Rattle.frame_words.specs.Appends.appended u (next_entry mid c.args.by (kind.Write v.page c.in-Ok.lsn c.in-Ok.upto))) c.in-Ok.ensures.seen in
-    wrote_behind P.tells P.told P.space_pages P.page_size P.fault_count o (g.F.Frames.seen c.args.frames.now) (g.F.Frames.seen c.append.new.frames) c.args.self.now.state mid c.append.new.self.state c.args.by v.page v.frame c.in-Ok.lsn c.in-Ok.upto
+    wrote_behind P.seen o (g.F.Frames.seen c.args.frames.now) (g.F.Frames.seen c.append.new.frames) c.args.self.now.state mid c.append.new.self.state c.args.by v.page v.frame c.in-Ok.lsn c.in-Ok.upto
     written.bytes but kept written.page c.in-Ok.ensures.others written.tells_it (λ silent. laws.silent mid.disk v.page silent) c.append.ensures.appended c.append.ensures.disk looks before
 
 pub returns-in-Err-clause-but : goal.returns-in-Err-clause-but
@@ -70,8 +70,8 @@ returns-in-Err-clause-but g c =
     let mid = c.write_claimed.new.self.state in
     let kept : mid ≡ on_disk c.args.self.now.state mid.disk = ap (λ x. x.state) c.in-Err.ensures.kept in
     let soiled : is_dirty c.args.self.now.state.history v.page ≡ true = ap (λ x. is_dirty x.state.history v.page) (sym c.self.view_is) ∙ sym c.is_dirty-soiled.ensures ∙ c.if-not-soiled.false in
-    subst (λ (u : FramesSeen). AreTiedBut P.tells P.told P.space_pages u mid v.page v.frame) (sym c.in-Err.ensures.seen)
-    (unwritten_but P.tells P.told P.space_pages P.page_size P.fault_count (g.F.Frames.seen c.args.frames.now) c.args.self.now.state mid v.page v.frame soiled kept c.in-Err.ensures.others c.in-Err.ensures.failed c.requires.but)
+    subst (λ (u : FramesSeen). AreTiedBut P.seen u mid v.page v.frame) (sym c.in-Err.ensures.seen)
+    (unwritten_but P.seen (g.F.Frames.seen c.args.frames.now) c.args.self.now.state mid v.page v.frame soiled kept c.in-Err.ensures.others c.in-Err.ensures.failed c.requires.but)
 
 pub returns-in-Err-clause-behind : goal.returns-in-Err-clause-behind
 returns-in-Err-clause-behind g c = λ o before.
@@ -80,8 +80,8 @@ returns-in-Err-clause-behind g c = λ o before.
     let mid = c.write_claimed.new.self.state in
     let kept : mid ≡ on_disk c.args.self.now.state mid.disk = ap (λ x. x.state) c.in-Err.ensures.kept in
     let soiled : is_dirty c.args.self.now.state.history v.page ≡ true = ap (λ x. is_dirty x.state.history v.page) (sym c.self.view_is) ∙ sym c.is_dirty-soiled.ensures ∙ c.if-not-soiled.false in
-    subst (λ (u : FramesSeen). Rattle.desk.specs.Behind.IsBehind P.tells P.told P.space_pages o mid u) (sym c.in-Err.ensures.seen)
-    (unwritten_behind P.tells P.told P.space_pages P.page_size P.fault_count o (g.F.Frames.seen c.args.frames.now) c.args.self.now.state mid v.page soiled kept c.in-Err.ensures.others c.in-Err.ensures.failed before)
+    subst (λ (u : FramesSeen). Rattle.desk.specs.Behind.IsBehind P.seen o mid u) (sym c.in-Err.ensures.seen)
+    (unwritten_behind P.seen o (g.F.Frames.seen c.args.frames.now) c.args.self.now.state mid v.page soiled kept c.in-Err.ensures.others c.in-Err.ensures.failed before)
 
 pub returns-in-Err-clause-stands : goal.returns-in-Err-clause-stands
 returns-in-Err-clause-stands g c = λ o s before.
@@ -90,10 +90,10 @@ returns-in-Err-clause-stands g c = λ o s before.
     let mid = c.write_claimed.new.self.state in
     let kept : mid ≡ on_disk c.args.self.now.state mid.disk = ap (λ x. x.state) c.in-Err.ensures.kept in
     let soiled : is_dirty c.args.self.now.state.history v.page ≡ true = ap (λ x. is_dirty x.state.history v.page) (sym c.self.view_is) ∙ sym c.is_dirty-soiled.ensures ∙ c.if-not-soiled.false in
-    unwritten_behind P.tells P.told P.space_pages P.page_size P.fault_count o s c.args.self.now.state mid v.page soiled kept c.in-Err.ensures.others c.in-Err.ensures.failed before
+    unwritten_behind P.seen o s c.args.self.now.state mid v.page soiled kept c.in-Err.ensures.others c.in-Err.ensures.failed before
 
 pub returns-in-Ok-clause-others : goal.returns-in-Ok-clause-others
-returns-in-Ok-clause-others g c = λ q other. ap (λ (d : g.row.D.Denot). g.D.PageDisk.told d q) c.append.ensures.disk ∙ c.in-Ok.ensures.others.bytes q other
+returns-in-Ok-clause-others g c = λ q other. ap (λ (d : g.row.D.Denot). (g.D.PageDisk.seen d).told q) c.append.ensures.disk ∙ c.in-Ok.ensures.others.bytes q other
 
 pub returns-in-Err-clause-others : goal.returns-in-Err-clause-others
 returns-in-Err-clause-others g c = λ q other. c.in-Err.ensures.others.bytes q other

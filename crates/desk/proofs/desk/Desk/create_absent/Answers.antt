@@ -27,7 +27,7 @@ make-requires-clause-places g c = λ κs within.
 
 pub make-requires-clause-inside : goal.make-requires-clause-inside
 make-requires-clause-inside g c = λ κs within.
-    still_inside g.D.PageDisk.space_pages c.args.self.now.state.disk c.have_frame.new.self.state.disk c.args.page c.have_frame.ensures.desk.spaces_are c.requires.inside
+    still_inside g.D.PageDisk.seen c.args.self.now.state.disk c.have_frame.new.self.state.disk c.args.page c.have_frame.ensures.desk.spaces_are c.requires.inside
 
 pub make-requires-clause-clean : goal.make-requires-clause-clean
 make-requires-clause-clean g c = λ κs within.
@@ -100,9 +100,9 @@ returns-in-Err-clause-refused g c = λ held few.
     let now = (g.F.Frames.seen c.have_frame.new.frames).rows in
     let was = c.args.redo.now.seen in
     let is = c.have_frame.new.redo.seen in
-    subst (λ (e : CreateErr). IsCreateRefusal P.space_pages P.fault_count old new rows now c.args.by held c.args.page c.args.now was.durable was.end is.end was.faults is.faults e) (sym c.create_err.ensures)
-    (unhad_create P.space_pages P.fault_count old new rows now c.args.by held c.args.page c.args.now was.durable was.end is.end was.faults is.faults c.in-Err.error
-    (inside_below (P.space_pages old.disk) c.args.page c.requires.inside) few c.requires.absent c.in-Err.ensures.unmoved c.in-Err.ensures.refused)
+    subst (λ (e : CreateErr). IsCreateRefusal P.seen old new rows now c.args.by held c.args.page c.args.now was.durable was.end is.end was.faults is.faults e) (sym c.create_err.ensures)
+    (unhad_create P.seen old new rows now c.args.by held c.args.page c.args.now was.durable was.end is.end was.faults is.faults c.in-Err.error
+    (inside_below (P.seen old.disk).spaces c.args.page c.requires.inside) few c.requires.absent c.in-Err.ensures.unmoved c.in-Err.ensures.refused)
 
 pub returns-in-Err-clause-unused : goal.returns-in-Err-clause-unused
 returns-in-Err-clause-unused g c =
@@ -112,7 +112,7 @@ pub returns-in-Err-clause-leaves : goal.returns-in-Err-clause-leaves
 returns-in-Err-clause-leaves g c =
     let P = g.D.PageDisk in
     let had = c.have_frame.ensures in
-    had_leaves P.page_size P.tells P.told P.space_pages P.fault_count g.R.RedoDisk.told c.args.self.now.state c.have_frame.new.self.state (g.F.Frames.seen c.args.frames.now) (g.F.Frames.seen c.have_frame.new.frames)
+    had_leaves P.seen g.R.RedoDisk.told c.args.self.now.state c.have_frame.new.self.state (g.F.Frames.seen c.args.frames.now) (g.F.Frames.seen c.have_frame.new.frames)
     c.args.redo.now c.have_frame.new.redo had.count had.tied had.settled had.desk had.log had.covered had.behind
 
 pub returns-in-Ok-append-clause-created : goal.returns-in-Ok-append-clause-created
@@ -155,8 +155,8 @@ returns-in-Ok-append-clause-leaves g c =
     let size : length c.in-Ok.draft ≡ 13 = ap (length {A = ℕ}) c.in-Ok.ensures ∙ length-create c.args.page in
     let holds : Holds is.seen (record_of (create_change c.args.page) span.start) span.start =
     subst (λ (d : List ℕ). Holds is.seen (sealed d span.start) span.start) c.in-Ok.ensures put.record in
-    let leaves = had_leaves P.page_size P.tells P.told P.space_pages P.fault_count g.R.RedoDisk.told old mid s t c.args.redo.now c.have_frame.new.redo had.count had.tied had.settled had.desk had.log had.covered had.behind in
-    made_leaves P.page_size P.tells P.told P.space_pages P.fault_count g.R.RedoDisk.told old mid c.make.new.self.state s t (g.F.Frames.seen c.make.new.frames) c.args.redo.now c.have_frame.new.redo is c.args.by c.args.page c.args.now span.start c.make.result
+    let leaves = had_leaves P.seen g.R.RedoDisk.told old mid s t c.args.redo.now c.have_frame.new.redo had.count had.tied had.settled had.desk had.log had.covered had.behind in
+    made_leaves P.seen g.R.RedoDisk.told old mid c.make.new.self.state s t (g.F.Frames.seen c.make.new.frames) c.args.redo.now c.have_frame.new.redo is c.args.by c.args.page c.args.now span.start c.make.result
     had.count leaves c.in-Ok-have_frame.ensures.turn.base c.make.ensures.made c.make.ensures.tied c.make.ensures.settled c.make.ensures.left c.append.ensures.later c.append.ensures.disk c.append.ensures.mark c.append.ensures.kept holds
     (omega (arith, put.span.end, put.span.within, size)) c.make.ensures.behind
 
@@ -171,7 +171,7 @@ returns-in-Err-append-clause-refused g c = λ held few.
     let spent = c.in-Err-append.ensures.spent in
     let same_end : c.in-Err-append.field-0.end ≡ c.in-Err-append.end = c.in-Err-append.end-is in
     let size : length c.in-Ok.draft ≡ 13 = ap (length {A = ℕ}) c.in-Ok.ensures ∙ length-create c.args.page in (
-      inside_below (P.space_pages old.disk) c.args.page c.requires.inside,
+      inside_below (P.seen old.disk).spaces c.args.page c.requires.inside,
       few,
       record {
         absent = c.requires.absent;
@@ -198,7 +198,7 @@ returns-in-Err-append-clause-leaves g c =
     let same = c.in-Err-append.ensures.err in
     let spent = c.in-Err-append.ensures.spent in
     let known : c.in-Err-append.field-0.end ≤ c.have_frame.new.redo.seen.end = subst (λ (x : log.State g.row.R.Denot). c.in-Err-append.field-0.end ≤ x.seen.end) same spent.1 in
-    let leaves = had_leaves P.page_size P.tells P.told P.space_pages P.fault_count g.R.RedoDisk.told old mid s t was c.have_frame.new.redo had.count had.tied had.settled had.desk had.log had.covered had.behind in
-    subst (λ (x : log.State g.row.R.Denot). LeavesAll P.page_size P.tells P.told P.space_pages P.fault_count g.R.RedoDisk.told old c.refuse.new.self.state s u was x) (sym same)
-    (spent_leaves P.page_size P.tells P.told P.space_pages P.fault_count g.R.RedoDisk.told old mid c.refuse.new.self.state s t u was c.have_frame.new.redo c.args.by (call.Create c.args.page c.args.now) c.in-Err-append.field-0.end
+    let leaves = had_leaves P.seen g.R.RedoDisk.told old mid s t was c.have_frame.new.redo had.count had.tied had.settled had.desk had.log had.covered had.behind in
+    subst (λ (x : log.State g.row.R.Denot). LeavesAll P.seen g.R.RedoDisk.told old c.refuse.new.self.state s u was x) (sym same)
+    (spent_leaves P.seen g.R.RedoDisk.told old mid c.refuse.new.self.state s t u was c.have_frame.new.redo c.args.by (call.Create c.args.page c.args.now) c.in-Err-append.field-0.end
     had.count leaves c.refuse.ensures.appended c.refuse.ensures.disk known c.refuse.ensures.unmoved c.refuse.ensures.tied c.refuse.ensures.behind)

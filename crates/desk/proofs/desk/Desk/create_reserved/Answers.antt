@@ -48,7 +48,7 @@ returns-then-page-pages-clause-refused g c = (
 pub returns-then-page-pages-clause-leaves : goal.returns-then-page-pages-clause-leaves
 returns-then-page-pages-clause-leaves g c =
     let P = g.D.PageDisk in
-    refused_leaves P.page_size P.tells P.told P.space_pages P.fault_count g.R.RedoDisk.told c.args.self.now.state c.refuse.new.self.state (g.F.Frames.seen c.args.frames.now) (g.F.Frames.seen c.refuse.new.frames) c.args.redo.now c.args.by
+    refused_leaves P.seen g.R.RedoDisk.told c.args.self.now.state c.refuse.new.self.state (g.F.Frames.seen c.args.frames.now) (g.F.Frames.seen c.refuse.new.frames) c.args.redo.now c.args.by
     (call.Create c.args.page c.args.now) (cause.NoSuchPage c.pages-pages.result) (λ x. tt) c.refuse.ensures.appended c.refuse.ensures.disk c.refuse.ensures.unmoved c.refuse.ensures.tied c.requires.settled c.refuse.ensures.behind
 
 pub returns-then-held-ge64-clause-refused : goal.returns-then-held-ge64-clause-refused
@@ -67,7 +67,7 @@ pub returns-then-held-ge64-clause-leaves : goal.returns-then-held-ge64-clause-le
 returns-then-held-ge64-clause-leaves g c =
     let P = g.D.PageDisk in
     let r = c.refuse-then-held-ge64 in
-    refused_leaves P.page_size P.tells P.told P.space_pages P.fault_count g.R.RedoDisk.told c.args.self.now.state r.new.self.state (g.F.Frames.seen c.args.frames.now) (g.F.Frames.seen r.new.frames) c.args.redo.now c.args.by
+    refused_leaves P.seen g.R.RedoDisk.told c.args.self.now.state r.new.self.state (g.F.Frames.seen c.args.frames.now) (g.F.Frames.seen r.new.frames) c.args.redo.now c.args.by
     (call.Create c.args.page c.args.now) (cause.HoldFull c.args.held) (λ x. tt) r.ensures.appended r.ensures.disk r.ensures.unmoved r.ensures.tied c.requires.settled r.ensures.behind
 
 pub returns-in-Some-clause-refused : goal.returns-in-Some-clause-refused
@@ -86,7 +86,7 @@ pub returns-in-Some-clause-leaves : goal.returns-in-Some-clause-leaves
 returns-in-Some-clause-leaves g c =
     let P = g.D.PageDisk in
     let r = c.refuse-in-Some in
-    refused_leaves P.page_size P.tells P.told P.space_pages P.fault_count g.R.RedoDisk.told c.args.self.now.state r.new.self.state (g.F.Frames.seen c.args.frames.now) (g.F.Frames.seen r.new.frames) c.args.redo.now c.args.by
+    refused_leaves P.seen g.R.RedoDisk.told c.args.self.now.state r.new.self.state (g.F.Frames.seen c.args.frames.now) (g.F.Frames.seen r.new.frames) c.args.redo.now c.args.by
     (call.Create c.args.page c.args.now) (cause.Resident c.in-Some.frame) (λ x. tt) r.ensures.appended r.ensures.disk r.ensures.unmoved r.ensures.tied c.requires.settled r.ensures.behind
 
 pub returns-in-None-clause-inside : goal.returns-in-None-clause-inside
@@ -101,6 +101,6 @@ returns-in-None-clause-refused g c =
     let few : c.args.held < 64 = omega (arith, c.if-held-ge64.false) in
     let was = c.args.redo.now.seen in
     let is = c.create_absent.new.redo.seen in
-    let R = λ (held : ℕ) (e : CreateErr). IsCreateRefusal P.space_pages P.fault_count c.args.self.now.state c.create_absent.new.self.state (g.F.Frames.seen c.args.frames.now).rows (g.F.Frames.seen c.create_absent.new.frames).rows c.args.by held c.args.page c.args.now
+    let R = λ (held : ℕ) (e : CreateErr). IsCreateRefusal P.seen c.args.self.now.state c.create_absent.new.self.state (g.F.Frames.seen c.args.frames.now).rows (g.F.Frames.seen c.create_absent.new.frames).rows c.args.by held c.args.page c.args.now
     was.durable was.end is.end was.faults is.faults e in
     IfErr-weaker c.create_absent.result (λ e. (held : ℕ) → held < 64 → R held e) (λ e. R c.args.held e) (λ e is. is c.args.held few) c.create_absent.ensures.refused

@@ -22,19 +22,19 @@ use Rattle.desk.proofs.desk.Desk.evict.Goals as goal
 pub refuse_full-requires-clause-tied : goal.refuse_full-requires-clause-tied
 refuse_full-requires-clause-tied g c = λ κs within.
     let P = g.D.PageDisk in
-    tied_looked P.tells P.told P.space_pages (g.F.Frames.seen c.args.frames.now) (g.F.Frames.seen c.seek.new.frames) c.args.self.now.state
+    tied_looked P.seen (g.F.Frames.seen c.args.frames.now) (g.F.Frames.seen c.seek.new.frames) c.args.self.now.state
     (at_none c.in-Ok-None.field-0 _ c.in-Ok-None.ensures.looked c.in-Ok-None.field-0-is) c.requires.tied
 
 pub returns-in-Ok-None-clause-refused : goal.returns-in-Ok-None-clause-refused
 returns-in-Ok-None-clause-refused g c =
     let old = c.args.self.now.state in
     let new = c.refuse_full.new.self.state in
-    let faults = g.D.PageDisk.fault_count in
+    let seen = g.D.PageDisk.seen in
     let mark = c.args.redo.now.seen.durable in
     let log = c.args.redo.now.seen.faults in
     let looked = at_none c.in-Ok-None.field-0 _ c.in-Ok-None.ensures.looked c.in-Ok-None.field-0-is in
-    subst (λ (r : List Row). IsUnhad old new r c.args.by c.args.page c.args.call (faults old.disk) (faults new.disk) mark log log c.refuse_full.result) (ap (λ (u : FramesSeen). u.rows) looked.is)
-    (c.refuse_full.ensures.refused (faults old.disk) (faults new.disk) mark log log)
+    subst (λ (r : List Row). IsUnhad old new r c.args.by c.args.page c.args.call (seen old.disk).faults (seen new.disk).faults mark log log c.refuse_full.result) (ap (λ (u : FramesSeen). u.rows) looked.is)
+    (c.refuse_full.ensures.refused (seen old.disk).faults (seen new.disk).faults mark log log)
 
 pub returns-in-Ok-None-clause-leaves : goal.returns-in-Ok-None-clause-leaves
 returns-in-Ok-None-clause-leaves g c =
@@ -46,14 +46,14 @@ returns-in-Ok-None-clause-leaves g c =
     let looked = at_none c.in-Ok-None.field-0 _ c.in-Ok-None.ensures.looked c.in-Ok-None.field-0-is in
     record {
       absent = told.absent;
-      page_told = ap (λ (d : g.row.D.Denot). P.told d c.args.page) told.disk;
+      page_told = ap (λ (d : g.row.D.Denot). (P.seen d).told c.args.page) told.disk;
       count = let count = told.count in omega (arith, count);
       tied = told.tied;
       settled = subst AreSettled (sym (told.rows ∙ ap (λ (u : FramesSeen). u.rows) looked.is)) c.requires.settled;
       desk = told.desk;
       log = log_on g.R.RedoDisk.told c.args.redo.now c.args.redo.now old.history old.history c.refuse_full.new.self.state.history told.logged told.ends told.upto (log_same g.R.RedoDisk.told c.args.redo.now old.history);
       covered = inl refl;
-      behind = λ o before. told.behind o (behind_looked P.tells P.told P.space_pages o s t old looked before);
+      behind = λ o before. told.behind o (behind_looked P.seen o s t old looked before);
     }
 
 pub returns-in-Err-clause-leaves : goal.returns-in-Err-clause-leaves
@@ -67,12 +67,12 @@ returns-in-Err-clause-leaves g c =
       absent = c.requires.absent;
       page_told = refl;
       count = omega arith;
-      tied = tied_looked P.tells P.told P.space_pages s t old looked c.requires.tied;
+      tied = tied_looked P.seen s t old looked c.requires.tied;
       settled = subst AreSettled (sym (ap (λ (u : FramesSeen). u.rows) looked.is)) c.requires.settled;
-      desk = leaves_none P.page_size P.tells P.space_pages P.fault_count old;
+      desk = leaves_none P.seen old;
       log = log_same g.R.RedoDisk.told c.args.redo.now old.history;
       covered = inl refl;
-      behind = λ o before. behind_looked P.tells P.told P.space_pages o s t old looked before;
+      behind = λ o before. behind_looked P.seen o s t old looked before;
     }
 
 pub clean_first-requires-clause-but : goal.clean_first-requires-clause-but
@@ -80,7 +80,7 @@ clean_first-requires-clause-but g c = λ κs within.
     let P = g.D.PageDisk in
     let v = c.in-Ok-Some.victim in
     let taken = at_some c.in-Ok-Some.field-0 _ v c.in-Ok-Some.ensures.taken c.in-Ok-Some.field-0-is in
-    taken_but P.tells P.told P.space_pages (g.F.Frames.seen c.args.frames.now) (g.F.Frames.seen c.seek.new.frames) c.args.self.now.state v.page v.frame v.clock
+    taken_but P.seen (g.F.Frames.seen c.args.frames.now) (g.F.Frames.seen c.seek.new.frames) c.args.self.now.state v.page v.frame v.clock
     c.requires.tied c.requires.orderly c.requires.none_free taken
 
 pub let_go-requires-clause-found : goal.let_go-requires-clause-found
@@ -114,7 +114,7 @@ returns-in-Ok-clause-had g c =
     let clean = c.in-Ok.ensures in
     let gone = c.let_go.ensures in
     record {
-      had = evicted_is s t u old mid new c.args.by v.page v.frame v.clock t.found c.seek.new.passed.items c.of.result c.requires.none_free c.requires.tied.unvisited taken stops are
+      had = evicted_is s t u old mid new c.args.by v.page v.frame v.clock t.found c.seek.new.passed.items c.of.result c.requires.orderly c.requires.none_free c.requires.tied.unvisited taken stops are
           clean.cleaned (λ was. gone.disk ∙ clean.unused was) clean.desk.config clean.desk.instance gone.appended (gone.rows ∙ clean.rows);
       next = gone.next;
       below = subst (λ (x : Config). v.frame < x.frames) (sym (gone.appended.config ∙ clean.desk.config)) (c.requires.orderly.below v.page v.frame taken.housed);
@@ -141,14 +141,14 @@ returns-in-Ok-clause-leaves g c =
     let whole = c.requires.tied.whole in
     record {
       absent = evict_absent mid new c.args.by v.page c.args.page v.frame c.of.result gone.appended (cleaned_home old.config.first c.args.by v.page c.args.page old.history mid.history clean.cleaned ∙ c.requires.absent);
-      page_told = ap (λ (d : g.row.D.Denot). P.told d c.args.page) gone.disk ∙ clean.others c.args.page (other_page old.history v.page c.args.page v.frame taken.housed c.requires.absent);
+      page_told = ap (λ (d : g.row.D.Denot). (P.seen d).told c.args.page) gone.disk ∙ clean.others c.args.page (other_page old.history v.page c.args.page v.frame taken.housed c.requires.absent);
       count = let first = cleaned_length old.config.first c.args.by v.page old.history mid.history clean.cleaned in let last = ap (length {A = Entry}) gone.appended.history in omega (arith, first, last);
       tied = gone.tied;
       settled = settled_claimed s.rows u.rows v.frame taken.claimed.image (omega (arith, below, whole)) (gone.rows ∙ clean.rows ∙ taken_rows s t old.history v.page v.frame v.clock taken) c.requires.settled;
-      desk = leaves_more P.page_size P.tells P.space_pages P.fault_count old mid new clean.desk gone.appended.config gone.appended.instance gone.disk;
+      desk = leaves_more P.seen old mid new clean.desk gone.appended.config gone.appended.instance gone.disk;
       log = log_appended g.R.RedoDisk.told c.args.redo.now c.clean_first.new.redo old.history mid new c.args.by (kind.Evict v.page v.frame c.of.result) (λ x. tt) (λ n. refl) (λ m. tt) gone.appended clean.log;
-      covered = must_cover s t old v.page v.frame v.clock c.args.redo.now.seen.durable t.found c.seek.new.passed.items c.requires.none_free c.requires.tied.unvisited taken stops clean.covered;
-      behind = λ o before. gone.behind o (clean.behind o (taken_behind P.tells P.told P.space_pages o s t old v.page v.frame v.clock c.requires.tied c.requires.orderly taken before));
+      covered = must_cover s t old v.page v.frame v.clock c.args.redo.now.seen.durable t.found c.seek.new.passed.items c.requires.orderly c.requires.none_free c.requires.tied.unvisited taken stops clean.covered;
+      behind = λ o before. gone.behind o (clean.behind o (taken_behind P.seen o s t old v.page v.frame v.clock c.requires.tied c.requires.orderly taken before));
     }
 
 pub returns-in-Err-clean_first-clause-unmoved : goal.returns-in-Err-clean_first-clause-unmoved
@@ -160,7 +160,7 @@ returns-in-Err-clean_first-clause-unmoved g c =
     let taken = at_some c.in-Ok-Some.field-0 _ v c.in-Ok-Some.ensures.taken c.in-Ok-Some.field-0-is in
     c.put_back.ensures.rows
     ∙ ap (λ (l : List Row). Rattle.std.proofs.Common.set l v.frame (published_row (row_in l v.frame) v.page v.clock)) c.in-Err-clean_first.ensures.rows
-    ∙ taken_back P.tells P.told P.space_pages s t c.args.self.now.state v.page v.frame v.clock c.requires.tied c.requires.orderly c.requires.settled taken
+    ∙ taken_back P.seen s t c.args.self.now.state v.page v.frame v.clock c.requires.tied c.requires.orderly c.requires.settled taken
 
 pub returns-in-Err-clean_first-clause-refused : goal.returns-in-Err-clean_first-clause-refused
 unfolding must_write
@@ -173,18 +173,18 @@ returns-in-Err-clean_first-clause-refused g c =
     let v = c.in-Ok-Some.victim in
     let taken = at_some c.in-Ok-Some.field-0 _ v c.in-Ok-Some.ensures.taken c.in-Ok-Some.field-0-is in
     let stops = at_some c.in-Ok-Some.field-0 _ v c.in-Ok-Some.ensures.stops c.in-Ok-Some.field-0-is in
-    let faults = g.D.PageDisk.fault_count in
+    let seen = g.D.PageDisk.seen in
     let mark = c.args.redo.now.seen.durable in
     let was = c.args.redo.now.seen.faults in
     let is = c.clean_first.new.redo.seen.faults in
     let e = c.in-Err-clean_first.error in
     let failed = c.in-Err-clean_first.ensures in
-    let fault = subst (λ (d : g.row.D.Denot). IsWriteFault (faults old.disk) (faults d) was is e) (sym c.put_back.ensures.disk) failed.fault in
+    let fault = subst (λ (d : g.row.D.Denot). IsWriteFault (seen old.disk).faults (seen d).faults was is e) (sym c.put_back.ensures.disk) failed.fault in
     let refused = appended_on old mid new c.args.by (kind.Refused c.args.call (cause_of e)) (ap (λ x. x.state) failed.failed) c.put_back.ensures.appended in
-    let must = must_write s t old v.page v.frame v.clock t.found c.seek.new.passed.items c.requires.none_free c.requires.tied.unvisited taken stops failed.soiled in
+    let must = must_write s t old v.page v.frame v.clock t.found c.seek.new.passed.items c.requires.orderly c.requires.none_free c.requires.tied.unvisited taken stops failed.soiled in
     let forced = subst (λ (d : g.row.D.Denot). IsForced old.disk d (IsAhead old.history v.page mark) e) (sym c.put_back.ensures.disk) failed.forced in
-    subst (λ x. IsUnhad old new s.rows c.args.by c.args.page c.args.call (faults old.disk) (faults new.disk) mark was is x) (sym c.put_back.ensures.refused)
-    (unhad_fault old new s.rows c.args.by c.args.page c.args.call (faults old.disk) (faults new.disk) mark was is e fault refused must forced)
+    subst (λ x. IsUnhad old new s.rows c.args.by c.args.page c.args.call (seen old.disk).faults (seen new.disk).faults mark was is x) (sym c.put_back.ensures.refused)
+    (unhad_fault old new s.rows c.args.by c.args.page c.args.call (seen old.disk).faults (seen new.disk).faults mark was is e fault refused must forced)
 
 pub returns-in-Err-clean_first-clause-leaves : goal.returns-in-Err-clean_first-clause-leaves
 returns-in-Err-clean_first-clause-leaves g c =
@@ -205,14 +205,14 @@ returns-in-Err-clean_first-clause-leaves g c =
     let unmoved = returns-in-Err-clean_first-clause-unmoved g c in
     record {
       absent = refused_absent mid new c.args.by c.args.page c.args.call (cause_of e) back.appended (ap (λ (h : List Entry). home h c.args.page) same ∙ c.requires.absent);
-      page_told = ap (λ (d : g.row.D.Denot). P.told d c.args.page) back.disk ∙ failed.others c.args.page (other_page old.history v.page c.args.page v.frame taken.housed c.requires.absent);
+      page_told = ap (λ (d : g.row.D.Denot). (P.seen d).told c.args.page) back.disk ∙ failed.others c.args.page (other_page old.history v.page c.args.page v.frame taken.housed c.requires.absent);
       count = let first = ap (length {A = Entry}) same in let last = ap (length {A = Entry}) back.appended.history in omega (arith, first, last);
       tied = back.tied;
       settled = subst AreSettled (sym unmoved) c.requires.settled;
-      desk = leaves_more P.page_size P.tells P.space_pages P.fault_count old mid new failed.desk back.appended.config back.appended.instance back.disk;
+      desk = leaves_more P.seen old mid new failed.desk back.appended.config back.appended.instance back.disk;
       log = log_appended g.R.RedoDisk.told c.args.redo.now c.clean_first.new.redo old.history mid new c.args.by (kind.Refused c.args.call (cause_of e)) (λ x. fault_logged x c.args.call e) (λ n. refl) (λ m. tt) back.appended failed.log;
-      covered = must_cover s t old v.page v.frame v.clock c.args.redo.now.seen.durable t.found c.seek.new.passed.items c.requires.none_free c.requires.tied.unvisited taken stops failed.covered;
-      behind = λ o before. behind_frames P.tells P.told P.space_pages o new s u unmoved (back.base ∙ failed.turn.base ∙ (taken_turn s t old.history v.page v.frame v.clock taken).base)
+      covered = must_cover s t old v.page v.frame v.clock c.args.redo.now.seen.durable t.found c.seek.new.passed.items c.requires.orderly c.requires.none_free c.requires.tied.unvisited taken stops failed.covered;
+      behind = λ o before. behind_frames P.seen o new s u unmoved (back.base ∙ failed.turn.base ∙ (taken_turn s t old.history v.page v.frame v.clock taken).base)
           (back.stands o s (failed.stands o s before));
     }
 

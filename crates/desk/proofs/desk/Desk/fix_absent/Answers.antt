@@ -25,7 +25,7 @@ load-requires-clause-places g c = λ κs within.
 
 pub load-requires-clause-inside : goal.load-requires-clause-inside
 load-requires-clause-inside g c = λ κs within.
-    still_inside g.D.PageDisk.space_pages c.args.self.now.state.disk c.have_frame.new.self.state.disk c.args.page c.have_frame.ensures.desk.spaces_are c.requires.inside
+    still_inside g.D.PageDisk.seen c.args.self.now.state.disk c.have_frame.new.self.state.disk c.args.page c.have_frame.ensures.desk.spaces_are c.requires.inside
 
 pub load-requires-clause-clean : goal.load-requires-clause-clean
 load-requires-clause-clean g c = λ κs within.
@@ -75,9 +75,9 @@ returns-in-Err-clause-refused g c = λ held few.
     let new = c.have_frame.new.self.state in
     let rows = (g.F.Frames.seen c.args.frames.now).rows in
     let now = (g.F.Frames.seen c.have_frame.new.frames).rows in
-    subst (λ (e : FixErr). IsFixRefusal P.told P.space_pages P.fault_count old new rows now c.args.by held c.args.page c.args.now c.args.redo.now.seen.durable c.args.redo.now.seen.faults c.have_frame.new.redo.seen.faults e) (sym c.fix_err.ensures)
-    (unhad_refused P.told P.space_pages P.fault_count old new rows now c.args.by held c.args.page c.args.now
-    c.args.redo.now.seen.durable c.args.redo.now.seen.faults c.have_frame.new.redo.seen.faults c.in-Err.error (inside_below (P.space_pages old.disk) c.args.page c.requires.inside) few c.requires.absent c.in-Err.ensures.unmoved c.in-Err.ensures.refused)
+    subst (λ (e : FixErr). IsFixRefusal P.seen old new rows now c.args.by held c.args.page c.args.now c.args.redo.now.seen.durable c.args.redo.now.seen.faults c.have_frame.new.redo.seen.faults e) (sym c.fix_err.ensures)
+    (unhad_refused P.seen old new rows now c.args.by held c.args.page c.args.now
+    c.args.redo.now.seen.durable c.args.redo.now.seen.faults c.have_frame.new.redo.seen.faults c.in-Err.error (inside_below (P.seen old.disk).spaces c.args.page c.requires.inside) few c.requires.absent c.in-Err.ensures.unmoved c.in-Err.ensures.refused)
 
 pub returns-in-Err-clause-grown : goal.returns-in-Err-clause-grown
 returns-in-Err-clause-grown g c = let count = c.have_frame.ensures.count in omega (arith, count)
@@ -97,8 +97,8 @@ pub returns-in-Err-load-clause-refused : goal.returns-in-Err-load-clause-refused
 returns-in-Err-load-clause-refused g c = λ held few.
     let P = g.D.PageDisk in
     let old = c.args.self.now.state in
-    unread_refused P.told P.space_pages P.fault_count old c.have_frame.new.self.state c.load.new.self.state (g.F.Frames.seen c.args.frames.now).rows (g.F.Frames.seen c.have_frame.new.frames).rows (g.F.Frames.seen c.load.new.frames).rows
-    c.args.by held c.args.page c.args.now c.args.redo.now.seen.durable c.args.redo.now.seen.faults c.have_frame.new.redo.seen.faults c.in-Ok.frame c.in-Err-load.refusal (inside_below (P.space_pages old.disk) c.args.page c.requires.inside) few
+    unread_refused P.seen old c.have_frame.new.self.state c.load.new.self.state (g.F.Frames.seen c.args.frames.now).rows (g.F.Frames.seen c.have_frame.new.frames).rows (g.F.Frames.seen c.load.new.frames).rows
+    c.args.by held c.args.page c.args.now c.args.redo.now.seen.durable c.args.redo.now.seen.faults c.have_frame.new.redo.seen.faults c.in-Ok.frame c.in-Err-load.refusal (inside_below (P.seen old.disk).spaces c.args.page c.requires.inside) few
     c.requires.absent c.have_frame.ensures.desk.later c.have_frame.ensures.page_told c.in-Ok.ensures.had c.in-Err-load.ensures.unmoved c.in-Err-load.ensures.refused
 
 pub returns-in-Err-load-clause-grown : goal.returns-in-Err-load-clause-grown
@@ -107,7 +107,7 @@ returns-in-Err-load-clause-grown g c = let count = c.have_frame.ensures.count in
 pub returns-in-Err-load-clause-left : goal.returns-in-Err-load-clause-left
 returns-in-Err-load-clause-left g c =
     let P = g.D.PageDisk in
-    leaves_on P.page_size P.tells P.space_pages P.fault_count c.args.self.now.state c.have_frame.new.self.state c.load.new.self.state c.have_frame.ensures.desk c.load.ensures.left
+    leaves_on P.seen c.args.self.now.state c.have_frame.new.self.state c.load.new.self.state c.have_frame.ensures.desk c.load.ensures.left
 
 pub returns-in-Err-load-clause-log : goal.returns-in-Err-load-clause-log
 returns-in-Err-load-clause-log g c =
@@ -129,12 +129,12 @@ returns-in-Err-load-clause-unsound g c = λ o bad before is.
     let t = g.F.Frames.seen c.have_frame.new.frames in
     let stands = c.have_frame.ensures.behind o before in
     let why : c.in-Err-load.refusal ≡ refusal.BadPage bad = err_is c.in-Err-load.refusal (refusal.BadPage bad) is in
-    let unsound : IsUnsound P.told had c.load.new.self.state c.args.by p c.args.now bad =
-    subst (λ e. IsLoadRefusal P.told P.fault_count had c.load.new.self.state c.args.by p c.args.now e) why c.in-Err-load.ensures.refused in
-    let inside = still_inside P.space_pages old.disk had.disk p c.have_frame.ensures.desk.spaces_are c.requires.inside in
+    let unsound : IsUnsound P.seen had c.load.new.self.state c.args.by p c.args.now bad =
+    subst (λ e. IsLoadRefusal P.seen had c.load.new.self.state c.args.by p c.args.now e) why c.in-Err-load.ensures.refused in
+    let inside = still_inside P.seen old.disk had.disk p c.have_frame.ensures.desk.spaces_are c.requires.inside in
     let clean = had_clean old had s.rows t.rows c.args.by c.in-Ok.frame p c.in-Ok.ensures.had c.requires.clean in
     sym (had_value old had s.rows t.rows c.args.by c.in-Ok.frame o.size o.base p c.in-Ok.ensures.had)
-    ∙ read_none P.tells P.told P.space_pages o had t p unsound.read.bytes bad stands (inside_below (P.space_pages had.disk) p inside) clean unsound.read.known unsound.read.because
+    ∙ read_none P.seen o had t p unsound.read.bytes bad stands (inside_below (P.seen had.disk).spaces p inside) clean unsound.read.known unsound.read.because
 
 pub returns-in-Ok-load-clause-granted : goal.returns-in-Ok-load-clause-granted
 returns-in-Ok-load-clause-granted g c =
@@ -153,7 +153,7 @@ returns-in-Ok-load-clause-granted g c =
       between = between;
       frame_is = subst (λ (f : ℕ). IsHad old had rows cleared c.args.by f) (sym c.grant.ensures.frame) c.in-Ok.ensures.had;
       page_told = c.have_frame.ensures.page_told;
-      loaded = subst (λ (f : ℕ). IsLoaded P.told had mid cleared between c.args.by c.args.page f) (sym c.grant.ensures.frame) c.in-Ok-load.ensures.ok;
+      loaded = subst (λ (f : ℕ). IsLoaded P.seen had mid cleared between c.args.by c.args.page f) (sym c.grant.ensures.frame) c.in-Ok-load.ensures.ok;
       hit = c.grant.ensures.hit;
     }
 
@@ -168,8 +168,8 @@ pub returns-in-Ok-load-clause-left : goal.returns-in-Ok-load-clause-left
 returns-in-Ok-load-clause-left g c =
     let P = g.D.PageDisk in
     let mid = c.load.new.self.state in
-    leaves_on P.page_size P.tells P.space_pages P.fault_count c.args.self.now.state mid c.grant.new.self.state
-    (leaves_on P.page_size P.tells P.space_pages P.fault_count c.args.self.now.state c.have_frame.new.self.state mid c.have_frame.ensures.desk c.load.ensures.left) c.grant.ensures.left
+    leaves_on P.seen c.args.self.now.state mid c.grant.new.self.state
+    (leaves_on P.seen c.args.self.now.state c.have_frame.new.self.state mid c.have_frame.ensures.desk c.load.ensures.left) c.grant.ensures.left
 
 pub returns-in-Ok-load-clause-log : goal.returns-in-Ok-load-clause-log
 returns-in-Ok-load-clause-log g c =
@@ -195,12 +195,12 @@ returns-in-Ok-load-clause-valued g c = λ o before.
     let s = g.F.Frames.seen c.args.frames.now in
     let t = g.F.Frames.seen c.have_frame.new.frames in
     let loaded = c.in-Ok-load.ensures.ok in
-    let inside = still_inside P.space_pages old.disk had.disk p c.have_frame.ensures.desk.spaces_are c.requires.inside in
+    let inside = still_inside P.seen old.disk had.disk p c.have_frame.ensures.desk.spaces_are c.requires.inside in
     let clean = had_clean old had s.rows t.rows c.args.by c.in-Ok.frame p c.in-Ok.ensures.had c.requires.clean in
     ap is_some (sym (had_value old had s.rows t.rows c.args.by c.in-Ok.frame o.size o.base p c.in-Ok.ensures.had)
-    ∙ read_value P.tells P.told P.space_pages o had t p loaded.content (c.have_frame.ensures.behind o before) (inside_below (P.space_pages had.disk) p inside) clean loaded.read)
+    ∙ read_value P.seen o had t p loaded.content (c.have_frame.ensures.behind o before) (inside_below (P.seen had.disk).spaces p inside) clean loaded.read)
 
 pub returns-in-Err-load-clause-unlogged : goal.returns-in-Err-load-clause-unlogged
 returns-in-Err-load-clause-unlogged g c =
     let P = g.D.PageDisk in
-    unlogged_load P.told P.fault_count c.have_frame.new.self.state c.load.new.self.state c.args.by c.args.page c.args.now c.args.redo.now c.have_frame.new.redo c.in-Err-load.refusal c.in-Err-load.ensures.refused
+    unlogged_load P.seen c.have_frame.new.self.state c.load.new.self.state c.args.by c.args.page c.args.now c.args.redo.now c.have_frame.new.redo c.in-Err-load.refusal c.in-Err-load.ensures.refused

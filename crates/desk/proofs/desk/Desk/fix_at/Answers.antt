@@ -3,7 +3,7 @@ use Rattle.std.proofs.lemmas.Result.{IfOk-weaker, IfErr-weaker}
 use Rattle.trail.specs.declared.event.Call.TheVariants as call
 use Rattle.trail.specs.declared.event.Cause.TheVariants as cause
 use Rattle.trail.specs.declared.event.Kind.TheVariants as kind
-use Rattle.trail.specs.Book.{book, next_frame}
+use Rattle.trail.specs.Book.{book, frame_in_turn}
 use Rattle.trail.specs.Dirt.{log_end}
 use Rattle.trail.specs.History.{home, value}
 use Rattle.frame_words.specs.Seen.{row_at}
@@ -27,7 +27,7 @@ pub returns-then-is_err-clause-left : goal.returns-then-is_err-clause-left
 returns-then-is_err-clause-left g c =
     let P = g.D.PageDisk in
     let old = c.args.self.now.state in
-    subst (λ (d : State g.row.D.Denot). LeavesDesk P.page_size P.tells P.space_pages P.fault_count old d) (sym c.reserve_fix.ensures.same) (leaves_none P.page_size P.tells P.space_pages P.fault_count old)
+    subst (λ (d : State g.row.D.Denot). LeavesDesk P.seen old d) (sym c.reserve_fix.ensures.same) (leaves_none P.seen old)
 
 pub returns-then-is_err-clause-grown : goal.returns-then-is_err-clause-grown
 returns-then-is_err-clause-grown g c = let e = ap (λ (d : State g.row.D.Denot). length d.history) c.reserve_fix.ensures.same in omega (arith, e)
@@ -47,7 +47,7 @@ returns-then-page-pages-clause-left g c =
     let old = c.args.self.now.state in
     let mid = c.reserve_fix.new.self.state in
     let appended = c.refuse.ensures.appended in
-    leaves_more P.page_size P.tells P.space_pages P.fault_count old mid c.refuse.new.self.state (subst (λ (d : State g.row.D.Denot). LeavesDesk P.page_size P.tells P.space_pages P.fault_count old d) (sym c.reserve_fix.ensures.same) (leaves_none P.page_size P.tells P.space_pages P.fault_count old))
+    leaves_more P.seen old mid c.refuse.new.self.state (subst (λ (d : State g.row.D.Denot). LeavesDesk P.seen old d) (sym c.reserve_fix.ensures.same) (leaves_none P.seen old))
     appended.config appended.instance c.refuse.ensures.disk
 
 pub returns-then-page-pages-clause-logged : goal.returns-then-page-pages-clause-logged
@@ -65,7 +65,7 @@ returns-then-page-pages-clause-later g c = (log_same g.R.RedoDisk.told c.args.re
 
 pub returns-then-page-pages-clause-behind : goal.returns-then-page-pages-clause-behind
 returns-then-page-pages-clause-behind g c = λ o based before.
-    c.refuse.ensures.behind o (subst (λ (d : State g.row.D.Denot). IsBehind g.D.PageDisk.tells g.D.PageDisk.told g.D.PageDisk.space_pages o d (g.F.Frames.seen c.args.frames.now)) (sym c.reserve_fix.ensures.same) before)
+    c.refuse.ensures.behind o (subst (λ (d : State g.row.D.Denot). IsBehind g.D.PageDisk.seen o d (g.F.Frames.seen c.args.frames.now)) (sym c.reserve_fix.ensures.same) before)
 
 pub returns-then-held-ge64-clause-grown : goal.returns-then-held-ge64-clause-grown
 returns-then-held-ge64-clause-grown g c =
@@ -79,7 +79,7 @@ returns-then-held-ge64-clause-left g c =
     let old = c.args.self.now.state in
     let mid = c.reserve_fix.new.self.state in
     let appended = c.refuse-then-held-ge64.ensures.appended in
-    leaves_more P.page_size P.tells P.space_pages P.fault_count old mid c.refuse-then-held-ge64.new.self.state (subst (λ (d : State g.row.D.Denot). LeavesDesk P.page_size P.tells P.space_pages P.fault_count old d) (sym c.reserve_fix.ensures.same) (leaves_none P.page_size P.tells P.space_pages P.fault_count old))
+    leaves_more P.seen old mid c.refuse-then-held-ge64.new.self.state (subst (λ (d : State g.row.D.Denot). LeavesDesk P.seen old d) (sym c.reserve_fix.ensures.same) (leaves_none P.seen old))
     appended.config appended.instance c.refuse-then-held-ge64.ensures.disk
 
 pub returns-then-held-ge64-clause-logged : goal.returns-then-held-ge64-clause-logged
@@ -97,7 +97,7 @@ returns-then-held-ge64-clause-later g c = (log_same g.R.RedoDisk.told c.args.red
 
 pub returns-then-held-ge64-clause-behind : goal.returns-then-held-ge64-clause-behind
 returns-then-held-ge64-clause-behind g c = λ o based before.
-    c.refuse-then-held-ge64.ensures.behind o (subst (λ (d : State g.row.D.Denot). IsBehind g.D.PageDisk.tells g.D.PageDisk.told g.D.PageDisk.space_pages o d (g.F.Frames.seen c.args.frames.now)) (sym c.reserve_fix.ensures.same) before)
+    c.refuse-then-held-ge64.ensures.behind o (subst (λ (d : State g.row.D.Denot). IsBehind g.D.PageDisk.seen o d (g.F.Frames.seen c.args.frames.now)) (sym c.reserve_fix.ensures.same) before)
 
 pub returns-then-page-pages-clause-refused : goal.returns-then-page-pages-clause-refused
 returns-then-page-pages-clause-refused g c =
@@ -162,7 +162,7 @@ returns-in-Some-clause-grown g c =
 pub returns-in-Some-clause-left : goal.returns-in-Some-clause-left
 returns-in-Some-clause-left g c =
     let P = g.D.PageDisk in
-    subst (λ (d : State g.row.D.Denot). LeavesDesk P.page_size P.tells P.space_pages P.fault_count d c.grant.new.self.state) c.reserve_fix.ensures.same c.grant.ensures.left
+    subst (λ (d : State g.row.D.Denot). LeavesDesk P.seen d c.grant.new.self.state) c.reserve_fix.ensures.same c.grant.ensures.left
 
 pub returns-in-Some-clause-logged : goal.returns-in-Some-clause-logged
 returns-in-Some-clause-logged g c = λ before.
@@ -179,7 +179,7 @@ returns-in-Some-clause-later g c = (log_same g.R.RedoDisk.told c.args.redo.now c
 
 pub returns-in-Some-clause-behind : goal.returns-in-Some-clause-behind
 returns-in-Some-clause-behind g c = λ o based before.
-    c.grant.ensures.behind o (subst (λ (d : State g.row.D.Denot). IsBehind g.D.PageDisk.tells g.D.PageDisk.told g.D.PageDisk.space_pages o d (g.F.Frames.seen c.args.frames.now)) (sym c.reserve_fix.ensures.same) before)
+    c.grant.ensures.behind o (subst (λ (d : State g.row.D.Denot). IsBehind g.D.PageDisk.seen o d (g.F.Frames.seen c.args.frames.now)) (sym c.reserve_fix.ensures.same) before)
 
 pub returns-in-Some-clause-valued : goal.returns-in-Some-clause-valued
 returns-in-Some-clause-valued g c = λ o before.
@@ -198,7 +198,7 @@ returns-in-None-clause-grown g c =
 pub returns-in-None-clause-left : goal.returns-in-None-clause-left
 returns-in-None-clause-left g c =
     let P = g.D.PageDisk in
-    subst (λ (d : State g.row.D.Denot). LeavesDesk P.page_size P.tells P.space_pages P.fault_count d c.fix_absent.new.self.state) c.reserve_fix.ensures.same c.fix_absent.ensures.left
+    subst (λ (d : State g.row.D.Denot). LeavesDesk P.seen d c.fix_absent.new.self.state) c.reserve_fix.ensures.same c.fix_absent.ensures.left
 
 pub returns-in-None-clause-logged : goal.returns-in-None-clause-logged
 returns-in-None-clause-logged g c = λ before.
@@ -212,20 +212,20 @@ returns-in-None-clause-known g c =
 
 pub returns-in-None-clause-behind : goal.returns-in-None-clause-behind
 returns-in-None-clause-behind g c = λ o based before.
-    c.fix_absent.ensures.behind o based (subst (λ (d : State g.row.D.Denot). IsBehind g.D.PageDisk.tells g.D.PageDisk.told g.D.PageDisk.space_pages o d (g.F.Frames.seen c.args.frames.now)) (sym c.reserve_fix.ensures.same) before)
+    c.fix_absent.ensures.behind o based (subst (λ (d : State g.row.D.Denot). IsBehind g.D.PageDisk.seen o d (g.F.Frames.seen c.args.frames.now)) (sym c.reserve_fix.ensures.same) before)
 
 pub returns-in-None-clause-valued : goal.returns-in-None-clause-valued
 returns-in-None-clause-valued g c = λ o before.
-    subst (λ (d : State g.row.D.Denot). IfOk c.fix_absent.result (λ g. IsSome (value o.size o.base d.history c.args.page))) c.reserve_fix.ensures.same (c.fix_absent.ensures.valued o (subst (λ (d : State g.row.D.Denot). IsBehind g.D.PageDisk.tells g.D.PageDisk.told g.D.PageDisk.space_pages o d (g.F.Frames.seen c.args.frames.now)) (sym c.reserve_fix.ensures.same) before))
+    subst (λ (d : State g.row.D.Denot). IfOk c.fix_absent.result (λ g. IsSome (value o.size o.base d.history c.args.page))) c.reserve_fix.ensures.same (c.fix_absent.ensures.valued o (subst (λ (d : State g.row.D.Denot). IsBehind g.D.PageDisk.seen o d (g.F.Frames.seen c.args.frames.now)) (sym c.reserve_fix.ensures.same) before))
 
 pub returns-in-None-clause-unsound : goal.returns-in-None-clause-unsound
 returns-in-None-clause-unsound g c = λ o bad before is.
-    ap (λ (d : State g.row.D.Denot). value o.size o.base d.history c.args.page) (sym c.reserve_fix.ensures.same) ∙ c.fix_absent.ensures.unsound o bad (subst (λ (d : State g.row.D.Denot). IsBehind g.D.PageDisk.tells g.D.PageDisk.told g.D.PageDisk.space_pages o d (g.F.Frames.seen c.args.frames.now)) (sym c.reserve_fix.ensures.same) before) is
+    ap (λ (d : State g.row.D.Denot). value o.size o.base d.history c.args.page) (sym c.reserve_fix.ensures.same) ∙ c.fix_absent.ensures.unsound o bad (subst (λ (d : State g.row.D.Denot). IsBehind g.D.PageDisk.seen o d (g.F.Frames.seen c.args.frames.now)) (sym c.reserve_fix.ensures.same) before) is
 
 pub returns-in-None-clause-granted : goal.returns-in-None-clause-granted
 returns-in-None-clause-granted g c =
-    let IsIt = λ (d : State g.row.D.Denot) (x : Granted). IsMiss g.D.PageDisk.told d c.fix_absent.new.self.state (g.F.Frames.seen c.args.frames.now).rows (g.F.Frames.seen c.fix_absent.new.frames).rows c.args.by c.args.page c.args.now x in
-    let Is = λ (x : Granted). IsGrantedBy g.D.PageDisk.told c.args.self.now.state c.fix_absent.new.self.state (g.F.Frames.seen c.args.frames.now).rows (g.F.Frames.seen c.fix_absent.new.frames).rows c.args.by c.args.page c.args.now x in
+    let IsIt = λ (d : State g.row.D.Denot) (x : Granted). IsMiss g.D.PageDisk.seen d c.fix_absent.new.self.state (g.F.Frames.seen c.args.frames.now).rows (g.F.Frames.seen c.fix_absent.new.frames).rows c.args.by c.args.page c.args.now x in
+    let Is = λ (x : Granted). IsGrantedBy g.D.PageDisk.seen c.args.self.now.state c.fix_absent.new.self.state (g.F.Frames.seen c.args.frames.now).rows (g.F.Frames.seen c.fix_absent.new.frames).rows c.args.by c.args.page c.args.now x in
     IfOk-weaker c.fix_absent.result (IsIt c.args.self.now.state) Is (λ x miss. inr miss) (subst (λ (d : State g.row.D.Denot). IfOk c.fix_absent.result (IsIt d))
     c.reserve_fix.ensures.same c.fix_absent.ensures.granted)
 
@@ -233,7 +233,7 @@ pub returns-in-None-clause-refused : goal.returns-in-None-clause-refused
 returns-in-None-clause-refused g c =
     let P = g.D.PageDisk in
     let few : c.args.held < 64 = omega (arith, c.if-held-ge64.false) in
-    let R = λ (d : State g.row.D.Denot) (held : ℕ) (e : FixErr). IsFixRefusal P.told P.space_pages P.fault_count d c.fix_absent.new.self.state (g.F.Frames.seen c.args.frames.now).rows (g.F.Frames.seen c.fix_absent.new.frames).rows c.args.by held c.args.page c.args.now
+    let R = λ (d : State g.row.D.Denot) (held : ℕ) (e : FixErr). IsFixRefusal P.seen d c.fix_absent.new.self.state (g.F.Frames.seen c.args.frames.now).rows (g.F.Frames.seen c.fix_absent.new.frames).rows c.args.by held c.args.page c.args.now
     c.args.redo.now.seen.durable c.args.redo.now.seen.faults c.fix_absent.new.redo.seen.faults e in
     subst (λ (d : State g.row.D.Denot). IfErr c.fix_absent.result (λ e. R d c.args.held e)) c.reserve_fix.ensures.same
     (IfErr-weaker c.fix_absent.result (λ e. (held : ℕ) → held < 64 → R c.reserve_fix.new.self.state held e) (λ e. R c.reserve_fix.new.self.state c.args.held e) (λ e is. is c.args.held few) c.fix_absent.ensures.refused)
@@ -247,8 +247,8 @@ returns-in-None-clause-few g c = on_granted c.fix_absent.result (omega (arith, c
 pub returns-in-None-clause-unlogged : goal.returns-in-None-clause-unlogged
 returns-in-None-clause-unlogged g c =
     let absent = ap (λ (d : State g.row.D.Denot). home d.history c.args.page) (sym c.reserve_fix.ensures.same) ∙ sym c.home_of.ensures.home ∙ c.in-None.is in
-    needs_a_frame g.D.PageDisk.space_pages c.args.self.now.state c.args.held c.args.page absent (omega (arith, c.if-page-pages.false, c.pages-pages.ensures)) (omega (arith, c.if-held-ge64.false))
-    (λ some. c.fix_absent.ensures.free (subst (λ (d : State g.row.D.Denot). IsSome (next_frame (book d.config d.history))) (sym c.reserve_fix.ensures.same) some))
+    needs_a_frame g.D.PageDisk.seen c.args.self.now.state c.args.held c.args.page absent (omega (arith, c.if-page-pages.false, c.pages-pages.ensures)) (omega (arith, c.if-held-ge64.false))
+    (λ some. c.fix_absent.ensures.free (subst (λ (d : State g.row.D.Denot). IsSome (frame_in_turn (book d.config d.history))) (sym c.reserve_fix.ensures.same) some))
 
 pub returns-then-is_err-clause-upto : goal.returns-then-is_err-clause-upto
 returns-then-is_err-clause-upto g c =

@@ -11,38 +11,38 @@ use Rattle.desk.proofs.desk.Desk.flush.Goals as goal
 pub returns-in-Ok-sync-clause-tied : goal.returns-in-Ok-sync-clause-tied
 returns-in-Ok-sync-clause-tied g c =
     let same = c.sync.ensures.desk in
-    synced_tied g.D.PageDisk.tells g.D.PageDisk.told g.D.PageDisk.space_pages g.D.PageDisk.page_size g.D.PageDisk.fault_count (g.F.Frames.seen c.write_back_all.new.frames) c.write_back_all.new.self.state c.sync.new.self.state
+    synced_tied g.D.PageDisk.seen (g.F.Frames.seen c.write_back_all.new.frames) c.write_back_all.new.self.state c.sync.new.self.state
     same.config same.instance c.sync.ensures.history c.sync.ensures.same c.write_back_all.ensures.tied
 
 pub returns-in-Ok-sync-clause-behind : goal.returns-in-Ok-sync-clause-behind
 returns-in-Ok-sync-clause-behind g c = λ o before.
     let same = c.sync.ensures.desk in
-    synced_behind g.D.PageDisk.tells g.D.PageDisk.told g.D.PageDisk.space_pages o g.D.PageDisk.page_size g.D.PageDisk.fault_count (g.F.Frames.seen c.write_back_all.new.frames) c.write_back_all.new.self.state c.sync.new.self.state
+    synced_behind g.D.PageDisk.seen o (g.F.Frames.seen c.write_back_all.new.frames) c.write_back_all.new.self.state c.sync.new.self.state
     same.config same.instance c.sync.ensures.history c.sync.ensures.same (c.write_back_all.ensures.behind o before)
 
 pub returns-in-Err-sync-clause-tied : goal.returns-in-Err-sync-clause-tied
 returns-in-Err-sync-clause-tied g c =
     let same = c.sync.ensures.desk in
-    synced_tied g.D.PageDisk.tells g.D.PageDisk.told g.D.PageDisk.space_pages g.D.PageDisk.page_size g.D.PageDisk.fault_count (g.F.Frames.seen c.write_back_all.new.frames) c.write_back_all.new.self.state c.sync.new.self.state
+    synced_tied g.D.PageDisk.seen (g.F.Frames.seen c.write_back_all.new.frames) c.write_back_all.new.self.state c.sync.new.self.state
     same.config same.instance c.sync.ensures.history c.sync.ensures.same c.write_back_all.ensures.tied
 
 pub returns-in-Err-sync-clause-behind : goal.returns-in-Err-sync-clause-behind
 returns-in-Err-sync-clause-behind g c = λ o before.
     let same = c.sync.ensures.desk in
-    synced_behind g.D.PageDisk.tells g.D.PageDisk.told g.D.PageDisk.space_pages o g.D.PageDisk.page_size g.D.PageDisk.fault_count (g.F.Frames.seen c.write_back_all.new.frames) c.write_back_all.new.self.state c.sync.new.self.state
+    synced_behind g.D.PageDisk.seen o (g.F.Frames.seen c.write_back_all.new.frames) c.write_back_all.new.self.state c.sync.new.self.state
     same.config same.instance c.sync.ensures.history c.sync.ensures.same (c.write_back_all.ensures.behind o before)
 
 pub returns-in-Err-sync-clause-fault : goal.returns-in-Err-sync-clause-fault
 returns-in-Err-sync-clause-fault g c =
     let log = c.args.redo.now.seen.faults in
     let last = c.cover_all.new.redo.seen.faults in
-    fault_wider (g.D.PageDisk.fault_count c.write_back_all.new.self.state.disk) (g.D.PageDisk.fault_count c.sync.new.self.state.disk) log last (g.D.PageDisk.fault_count c.args.self.now.state.disk) log
+    fault_wider (g.D.PageDisk.seen c.write_back_all.new.self.state.disk).faults (g.D.PageDisk.seen c.sync.new.self.state.disk).faults log last (g.D.PageDisk.seen c.args.self.now.state.disk).faults log
     c.in-Err-sync.error c.write_back_all.ensures.desk.later (omega arith) (c.in-Err-sync.ensures.fault log last)
 
 pub returns-in-Err-cover_all-clause-fault : goal.returns-in-Err-cover_all-clause-fault
 returns-in-Err-cover_all-clause-fault g c =
-    let was = g.D.PageDisk.fault_count c.args.self.now.state.disk in
-    let is = g.D.PageDisk.fault_count c.write_back_all.new.self.state.disk in
+    let was = (g.D.PageDisk.seen c.args.self.now.state.disk).faults in
+    let is = (g.D.PageDisk.seen c.write_back_all.new.self.state.disk).faults in
     let first = c.args.redo.now.seen.faults in
     fault_wider was is c.write_back_all.new.redo.seen.faults c.cover_all.new.redo.seen.faults was first c.in-Err-cover_all.error (omega arith) c.write_back_all.ensures.later.faults
     (c.in-Err-cover_all.ensures.fault was is)

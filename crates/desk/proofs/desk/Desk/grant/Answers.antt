@@ -18,10 +18,10 @@ returns-clause-tied g c =
     let e = next_entry old c.args.by (kind.Fix c.args.page f clock c.args.now) in
     let seen : g.F.Frames.seen c.append.new.frames ≡ appended (visiting s f c.visit.result) e =
     granted s (g.F.Frames.seen c.visit.new.self) (g.F.Frames.seen c.append.new.frames) f c.visit.result e c.requires.tied.none_owed c.visit.ensures.seen c.append.ensures.seen in
-    tied_on g.D.PageDisk.tells g.D.PageDisk.told g.D.PageDisk.space_pages old c.append.new.self.state c.args.by (kind.Fix c.args.page f clock c.args.now) (g.F.Frames.seen c.append.new.frames) _
+    tied_on g.D.PageDisk.seen old c.append.new.self.state c.args.by (kind.Fix c.args.page f clock c.args.now) (g.F.Frames.seen c.append.new.frames) _
     c.append.ensures.appended c.append.ensures.disk seen
-    (tied_fixed g.D.PageDisk.tells g.D.PageDisk.told g.D.PageDisk.space_pages old.config old.instance old.history old.disk s c.args.by c.args.page f clock c.args.now c.visit.result
-    (below_rows g.D.PageDisk.tells g.D.PageDisk.told g.D.PageDisk.space_pages s old f c.requires.tied c.requires.below) c.requires.tied)
+    (tied_fixed g.D.PageDisk.seen old.config old.instance old.history old.disk s c.args.by c.args.page f clock c.args.now c.visit.result
+    (below_rows g.D.PageDisk.seen s old f c.requires.tied c.requires.below) c.requires.tied)
 
 pub returns-clause-behind : goal.returns-clause-behind
 returns-clause-behind g c = λ o before.
@@ -32,9 +32,9 @@ returns-clause-behind g c = λ o before.
     let e = next_entry old c.args.by (kind.Fix c.args.page f clock c.args.now) in
     let seen : g.F.Frames.seen c.append.new.frames ≡ appended (visiting s f c.visit.result) e =
     granted s (g.F.Frames.seen c.visit.new.self) (g.F.Frames.seen c.append.new.frames) f c.visit.result e c.requires.tied.none_owed c.visit.ensures.seen c.append.ensures.seen in
-    behind_on g.D.PageDisk.tells g.D.PageDisk.told g.D.PageDisk.space_pages o old c.append.new.self.state c.args.by (kind.Fix c.args.page f clock c.args.now) (g.F.Frames.seen c.append.new.frames) _
+    behind_on g.D.PageDisk.seen o old c.append.new.self.state c.args.by (kind.Fix c.args.page f clock c.args.now) (g.F.Frames.seen c.append.new.frames) _
     c.append.ensures.appended c.append.ensures.disk seen
-    (behind_fixed g.D.PageDisk.tells g.D.PageDisk.told g.D.PageDisk.space_pages o old.config old.instance old.history old.disk s c.args.by c.args.page f clock c.args.now c.visit.result before)
+    (behind_fixed g.D.PageDisk.seen o old.config old.instance old.history old.disk s c.args.by c.args.page f clock c.args.now c.visit.result before)
 
 pub returns-clause-settled : goal.returns-clause-settled
 returns-clause-settled g c =
@@ -54,5 +54,5 @@ pub returns-clause-left : goal.returns-clause-left
 returns-clause-left g c =
     let P = g.D.PageDisk in
     let old = c.args.self.now.state in
-    leaves_more P.page_size P.tells P.space_pages P.fault_count old old c.append.new.self.state (leaves_none P.page_size P.tells P.space_pages P.fault_count old)
+    leaves_more P.seen old old c.append.new.self.state (leaves_none P.seen old)
     c.append.ensures.appended.config c.append.ensures.appended.instance c.append.ensures.disk

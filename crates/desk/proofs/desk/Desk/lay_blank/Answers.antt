@@ -17,7 +17,7 @@ returns-clause-seen g c =
     let s = g.F.Frames.seen c.args.frames.now in
     let f = c.args.frame in
     let was = c.lift-image.result in
-    let inside = below_rows P.tells P.told P.space_pages s desk f c.requires.tied c.requires.below in
+    let inside = below_rows P.seen s desk f c.requires.tied c.requires.below in
     let there = vacant_image (page_bytes desk.config.page) desk.config.frames desk.history (row_at s f) f (c.requires.tied.rows f inside) c.requires.vacant c.requires.below in
     let same : was ≡ there.0 = subst (λ (i : Option (Option Content)). IfSome i (λ told. IfSome told (λ content. was ≡ content))) there.1 c.lift-image.ensures.image in
     let fits : length was.bytes ≡ page_bytes desk.config.page = ap (λ (y : Content). length y.bytes) same ∙ there.2 in
@@ -31,12 +31,12 @@ returns-clause-image g c =
     let s = g.F.Frames.seen c.args.frames.now in
     let f = c.args.frame in
     ap (λ (x : FramesSeen). (row_at x f).image) (returns-clause-seen g c)
-    ∙ ap (λ (r : Row). r.image) (row_here s.rows f (laid_row (row_at s f) (blank_at (page_bytes desk.config.page) c.args.lsn)) (below_rows P.tells P.told P.space_pages s desk f c.requires.tied c.requires.below))
+    ∙ ap (λ (r : Row). r.image) (row_here s.rows f (laid_row (row_at s f) (blank_at (page_bytes desk.config.page) c.args.lsn)) (below_rows P.seen s desk f c.requires.tied c.requires.below))
 
 pub returns-clause-tied : goal.returns-clause-tied
 returns-clause-tied g c =
     let P = g.D.PageDisk in
     let desk = c.args.self.now.state in
     let size = page_bytes desk.config.page in
-    subst (λ (x : FramesSeen). AreTied P.tells P.told P.space_pages x desk) (sym (returns-clause-seen g c))
-    (tied_laid P.tells P.told P.space_pages desk (g.F.Frames.seen c.args.frames.now) c.args.frame (blank_at size c.args.lsn) c.requires.below c.requires.vacant (blank_fits size c.args.lsn) c.requires.tied)
+    subst (λ (x : FramesSeen). AreTied P.seen x desk) (sym (returns-clause-seen g c))
+    (tied_laid P.seen desk (g.F.Frames.seen c.args.frames.now) c.args.frame (blank_at size c.args.lsn) c.requires.below c.requires.vacant (blank_fits size c.args.lsn) c.requires.tied)

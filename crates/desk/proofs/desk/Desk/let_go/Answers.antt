@@ -14,21 +14,21 @@ append-requires-clause-frames g c = λ κs within.
     let below = but.below in
     let whole = but.whole in
     let P = g.D.PageDisk in
-    may_append P.tells P.told P.space_pages s desk c.args.by (kind.Evict v.page v.frame c.args.passed)
+    may_append P.seen s desk c.args.by (kind.Evict v.page v.frame c.args.passed)
     (record { inside = omega (arith, below, whole); away = but.away }) but.history c.requires.turn but.none_owed
-    (published_but P.tells P.told P.space_pages s desk v.page v.frame but) (λ is. (but.own is v.page v.frame but.housed, tt)) but.housed
+    (published_but P.seen s desk v.page v.frame but) (λ is. (but.own is v.page v.frame but.housed, tt)) but.housed
     (each_some s.opened (λ o. FitsOpen o (kind.Evict v.page v.frame c.args.passed)) (λ o is. tt)) c.requires.found
 
 pub returns-clause-tied : goal.returns-clause-tied
 returns-clause-tied g c =
     let v = c.args.victim in
     let P = g.D.PageDisk in
-    gone_tied P.tells P.told P.space_pages (g.F.Frames.seen c.args.frames.now) (g.F.Frames.seen c.append.new.frames) c.args.self.now.state c.append.new.self.state c.args.by v.page v.frame c.args.passed
+    gone_tied P.seen (g.F.Frames.seen c.args.frames.now) (g.F.Frames.seen c.append.new.frames) c.args.self.now.state c.append.new.self.state c.args.by v.page v.frame c.args.passed
     c.requires.but c.append.ensures.appended c.append.ensures.disk c.append.ensures.seen
 
 pub returns-clause-behind : goal.returns-clause-behind
 returns-clause-behind g c = λ o before.
     let v = c.args.victim in
     let P = g.D.PageDisk in
-    gone_behind P.tells P.told P.space_pages o (g.F.Frames.seen c.args.frames.now) (g.F.Frames.seen c.append.new.frames) c.args.self.now.state c.append.new.self.state c.args.by v.page v.frame c.args.passed
+    gone_behind P.seen o (g.F.Frames.seen c.args.frames.now) (g.F.Frames.seen c.append.new.frames) c.args.self.now.state c.append.new.self.state c.args.by v.page v.frame c.args.passed
     c.append.ensures.appended c.append.ensures.disk c.append.ensures.seen before

@@ -1,6 +1,6 @@
 use Rattle.std.proofs.Common.{List, set, ◌≡◌, ◌+◌, ◌∷◌, IfSome, refl, sym, subst, ap, ◌∙◌}
 use Rattle.page_ids.specs.declared.config.Config.{Config}
-use Rattle.trail.specs.Places.{mark}
+use Rattle.trail.specs.Trails.{mark}
 use Rattle.page_disk.specs.Disks.{IsSameDisk}
 use Rattle.trail.specs.declared.event.Call.TheVariants as call
 use Rattle.trail.specs.declared.event.Cause.TheVariants as cause
@@ -42,7 +42,7 @@ returns-in-Ok-clause-ok g c =
       rows_are = c.take_in.ensures.rows
           ∙ ap (λ n. set t.rows f (published_row (row_at t f) c.args.page (mark n c.read_in.new.self.state.history + 1))) first
           ∙ ap (λ h. set t.rows f (published_row (row_at t f) c.args.page (mark old.config.first h + 1))) c.read_in.ensures.history
-          ∙ loaded_rows s t f c.args.page (mark old.config.first old.history + 1) read.content (below_rows g.D.PageDisk.tells g.D.PageDisk.told g.D.PageDisk.space_pages s old f c.requires.tied c.requires.below) read.seen;
+          ∙ loaded_rows s t f c.args.page (mark old.config.first old.history + 1) read.content (below_rows g.D.PageDisk.seen s old f c.requires.tied c.requires.below) read.seen;
     }
 
 pub returns-in-Ok-clause-behind : goal.returns-in-Ok-clause-behind
@@ -63,7 +63,7 @@ returns-in-Ok-clause-settled g c =
     let f = c.args.frame in
     let loaded = returns-in-Ok-clause-ok g c in
     settled_loaded s.rows (g.F.Frames.seen c.take_in.new.frames).rows f c.args.page loaded.content (mark old.config.first old.history + 1)
-    (c.requires.tied.rows f (below_rows P.tells P.told P.space_pages s old f c.requires.tied c.requires.below)).unlatched loaded.rows_are c.requires.settled
+    (c.requires.tied.rows f (below_rows P.seen s old f c.requires.tied c.requires.below)).unlatched loaded.rows_are c.requires.settled
 
 pub returns-in-Ok-clause-more : goal.returns-in-Ok-clause-more
 returns-in-Ok-clause-more g c = one_more c.args.self.now.state c.take_in.new.self.state c.args.by (kind.Load c.args.page c.args.frame) (λ x. tt) (λ n. refl) (λ m. tt) (returns-in-Ok-clause-ok g c).entry
@@ -72,8 +72,8 @@ pub returns-in-Ok-clause-left : goal.returns-in-Ok-clause-left
 returns-in-Ok-clause-left g c =
     let P = g.D.PageDisk in
     let entry = (returns-in-Ok-clause-ok g c).entry in
-    leaves_told P.page_size P.tells P.told P.space_pages P.fault_count c.args.self.now.state c.take_in.new.self.state entry.config entry.instance
-    (subst (λ (d : g.row.D.Denot). IsSameDisk P.page_size P.tells P.told P.space_pages P.fault_count c.args.self.now.state.disk d) (sym c.take_in.ensures.disk) c.read_in.ensures.disk)
+    leaves_told P.seen c.args.self.now.state c.take_in.new.self.state entry.config entry.instance
+    (subst (λ (d : g.row.D.Denot). IsSameDisk (P.seen c.args.self.now.state.disk) (P.seen d)) (sym c.take_in.ensures.disk) c.read_in.ensures.disk)
 
 pub returns-in-Err-DiskFault-clause-settled : goal.returns-in-Err-DiskFault-clause-settled
 returns-in-Err-DiskFault-clause-settled g c = subst AreSettled (sym (c.refuse.ensures.unmoved ∙ ap (λ (x : FramesSeen). x.rows) c.in-Err-DiskFault.ensures.err)) c.requires.settled
@@ -85,9 +85,9 @@ returns-in-Err-DiskFault-clause-more g c = subst (λ (h : List Entry). IsOneMore
 pub returns-in-Err-DiskFault-clause-left : goal.returns-in-Err-DiskFault-clause-left
 returns-in-Err-DiskFault-clause-left g c =
     let P = g.D.PageDisk in
-    leaves_told P.page_size P.tells P.told P.space_pages P.fault_count c.args.self.now.state c.refuse.new.self.state
+    leaves_told P.seen c.args.self.now.state c.refuse.new.self.state
     (c.refuse.ensures.appended.config ∙ c.read_in.ensures.config) (c.refuse.ensures.appended.instance ∙ c.read_in.ensures.instance)
-    (subst (λ (d : g.row.D.Denot). IsSameDisk P.page_size P.tells P.told P.space_pages P.fault_count c.args.self.now.state.disk d) (sym c.refuse.ensures.disk) c.read_in.ensures.disk)
+    (subst (λ (d : g.row.D.Denot). IsSameDisk (P.seen c.args.self.now.state.disk) (P.seen d)) (sym c.refuse.ensures.disk) c.read_in.ensures.disk)
 
 pub returns-in-Err-BadPage-clause-settled : goal.returns-in-Err-BadPage-clause-settled
 returns-in-Err-BadPage-clause-settled g c = subst AreSettled (sym (c.refuse-in-Err-BadPage.ensures.unmoved ∙ ap (λ (x : FramesSeen). x.rows) c.in-Err-BadPage.ensures.err)) c.requires.settled
@@ -99,6 +99,6 @@ returns-in-Err-BadPage-clause-more g c = subst (λ (h : List Entry). IsOneMore h
 pub returns-in-Err-BadPage-clause-left : goal.returns-in-Err-BadPage-clause-left
 returns-in-Err-BadPage-clause-left g c =
     let P = g.D.PageDisk in
-    leaves_told P.page_size P.tells P.told P.space_pages P.fault_count c.args.self.now.state c.refuse-in-Err-BadPage.new.self.state
+    leaves_told P.seen c.args.self.now.state c.refuse-in-Err-BadPage.new.self.state
     (c.refuse-in-Err-BadPage.ensures.appended.config ∙ c.read_in.ensures.config) (c.refuse-in-Err-BadPage.ensures.appended.instance ∙ c.read_in.ensures.instance)
-    (subst (λ (d : g.row.D.Denot). IsSameDisk P.page_size P.tells P.told P.space_pages P.fault_count c.args.self.now.state.disk d) (sym c.refuse-in-Err-BadPage.ensures.disk) c.read_in.ensures.disk)
+    (subst (λ (d : g.row.D.Denot). IsSameDisk (P.seen c.args.self.now.state.disk) (P.seen d)) (sym c.refuse-in-Err-BadPage.ensures.disk) c.read_in.ensures.disk)

@@ -1,6 +1,6 @@
 use Rattle.std.proofs.Common.{◌≡◌, ◌+◌, ℕ, IfSome, set, refl, subst, sym, ap, ◌∙◌}
 use Rattle.page_ids.specs.Size.{page_bytes}
-use Rattle.trail.specs.Places.{mark}
+use Rattle.trail.specs.Trails.{mark}
 use Rattle.trail.specs.declared.event.Kind.TheVariants as kind
 use Rattle.frame_words.specs.Rows.{laid_row}
 use Rattle.frame_words.specs.Seen.{FramesSeen, row_at}
@@ -31,8 +31,8 @@ returns-clause-made g c =
     let s = g.F.Frames.seen c.args.frames.now in
     let m = g.F.Frames.seen c.lay_blank.new.frames in
     let u = g.F.Frames.seen c.visit.new.self in
-    let inside = below_rows P.tells P.told P.space_pages s old f c.requires.tied c.requires.below in
-    let inside_m = below_rows P.tells P.told P.space_pages m old f c.lay_blank.ensures.tied c.requires.below in
+    let inside = below_rows P.seen s old f c.requires.tied c.requires.below in
+    let inside_m = below_rows P.seen m old f c.lay_blank.ensures.tied c.requires.below in
     let end = c.requires.span.1 in
     let place = c.show_made-place.result in
     let seen = finished_is m (g.F.Frames.seen c.show_made-place.new.frames) u old.config.first old.history c.args.by p f c.args.span.start c.args.span.end c.args.now place c.visit.result inside_m
@@ -57,7 +57,7 @@ returns-clause-settled g c =
     let old = c.args.self.now.state in
     let f = c.args.frame in
     let s = g.F.Frames.seen c.args.frames.now in
-    let inside = below_rows P.tells P.told P.space_pages s old f c.requires.tied c.requires.below in
+    let inside = below_rows P.seen s old f c.requires.tied c.requires.below in
     let is = returns-clause-made g c in
     settled_made s.rows (g.F.Frames.seen c.visit.new.self).rows f c.args.page (blank_at (page_bytes old.config.page) (c.args.span.start + 21)) c.show_made-place.result inside
     (c.requires.tied.rows f inside).unlatched is.rows_are c.requires.settled
@@ -74,14 +74,14 @@ returns-clause-tied g c =
     let blank = blank_at (page_bytes old.config.page) c.args.span.end in
     let may = fix_with s m old c.args.by p f (laid_row (row_at s f) blank) c.lay_blank.ensures.seen c.requires.caller in
     let tied = c.lay_blank.ensures.tied in
-    let inside = below_rows P.tells P.told P.space_pages m old f tied c.requires.below in
+    let inside = below_rows P.seen m old f tied c.requires.below in
     let create = kind.Create p f c.args.span.start c.args.span.end c.args.now in
     let seen : u ≡ finished m (next_entry old c.args.by create) f p (mark old.config.first old.history + 1) c.visit.result =
     finished_is m (g.F.Frames.seen c.show_made-place.new.frames) u old.config.first old.history c.args.by p f c.args.span.start c.args.span.end c.args.now c.show_made-place.result c.visit.result inside
     c.show_made-place.ensures.seen c.visit.ensures.seen
     ∙ ap (λ (n : ℕ). finished m (next_entry old c.args.by create) f p n c.visit.result) c.show_made-place.ensures.place in
-    tied_on P.tells P.told P.space_pages old c.show_made-place.new.self.state c.args.by create u _ c.show_made-place.ensures.appended c.show_made-place.ensures.disk seen
-    (tied_made P.tells P.told P.space_pages old.config old.instance old.history old.disk m c.args.by p f c.args.span.start c.args.span.end c.args.now c.visit.result
+    tied_on P.seen old c.show_made-place.new.self.state c.args.by create u _ c.show_made-place.ensures.appended c.show_made-place.ensures.disk seen
+    (tied_made P.seen old.config old.instance old.history old.disk m c.args.by p f c.args.span.start c.args.span.end c.args.now c.visit.result
     c.requires.below c.requires.vacant c.requires.absent may.own c.lay_blank.ensures.image tied)
 
 pub returns-clause-behind : goal.returns-clause-behind
@@ -94,23 +94,23 @@ returns-clause-behind g c = λ o based before.
     let m = g.F.Frames.seen c.lay_blank.new.frames in
     let u = g.F.Frames.seen c.visit.new.self in
     let tied = c.lay_blank.ensures.tied in
-    let inside = below_rows P.tells P.told P.space_pages m old f tied c.requires.below in
+    let inside = below_rows P.seen m old f tied c.requires.below in
     let blank = blank_at (page_bytes old.config.page) c.args.span.end in
     let create = kind.Create p f c.args.span.start c.args.span.end c.args.now in
     let seen : u ≡ finished m (next_entry old c.args.by create) f p (mark old.config.first old.history + 1) c.visit.result =
     finished_is m (g.F.Frames.seen c.show_made-place.new.frames) u old.config.first old.history c.args.by p f c.args.span.start c.args.span.end c.args.now c.show_made-place.result c.visit.result inside
     c.show_made-place.ensures.seen c.visit.ensures.seen
     ∙ ap (λ (n : ℕ). finished m (next_entry old c.args.by create) f p n c.visit.result) c.show_made-place.ensures.place in
-    let laid = subst (λ (x : FramesSeen). IsBehind P.tells P.told P.space_pages o old x) (sym c.lay_blank.ensures.seen)
-    (behind_laid P.tells P.told P.space_pages o old s f (laid_row (row_at s f) blank) c.requires.vacant before) in
+    let laid = subst (λ (x : FramesSeen). IsBehind P.seen o old x) (sym c.lay_blank.ensures.seen)
+    (behind_laid P.seen o old s f (laid_row (row_at s f) blank) c.requires.vacant before) in
     let first = subst (λ (x : FramesSeen). IfSome x.base (λ base. base ≡ o.base)) (sym c.lay_blank.ensures.seen) based in
-    behind_on P.tells P.told P.space_pages o old c.show_made-place.new.self.state c.args.by create u _ c.show_made-place.ensures.appended c.show_made-place.ensures.disk seen
-    (behind_made P.tells P.told P.space_pages o old.config old.instance old.history old.disk m c.args.by p f c.args.span.start c.args.span.end c.args.now c.visit.result
+    behind_on P.seen o old c.show_made-place.new.self.state c.args.by create u _ c.show_made-place.ensures.appended c.show_made-place.ensures.disk seen
+    (behind_made P.seen o old.config old.instance old.history old.disk m c.args.by p f c.args.span.start c.args.span.end c.args.now c.visit.result
     inside c.requires.vacant c.lay_blank.ensures.image (λ none. (tied.shared f inside none).1) first laid)
 
 pub returns-clause-left : goal.returns-clause-left
 returns-clause-left g c =
     let P = g.D.PageDisk in
     let old = c.args.self.now.state in
-    leaves_more P.page_size P.tells P.space_pages P.fault_count old old c.show_made-place.new.self.state (leaves_none P.page_size P.tells P.space_pages P.fault_count old)
+    leaves_more P.seen old old c.show_made-place.new.self.state (leaves_none P.seen old)
     c.show_made-place.ensures.appended.config c.show_made-place.ensures.appended.instance c.show_made-place.ensures.disk

@@ -10,7 +10,7 @@ returns-in-Ok-clause-behind g c = λ o frames opening.
     let laws = g.met.D.PageDisk g.world.𝓛 g.world.𝓜 g.world.𝓡 ((λ s x. x), (λ x. x), (λ x. x), λ x. x) in
     let config = c.args.config.now in
     let disk = c.args.disk in
-    let H : List Entry → Type 0 = λ h. IsBehind g.D.PageDisk.tells g.D.PageDisk.told g.D.PageDisk.space_pages o (made config c.args.instance h disk) frames in
-    let C : Config → Type 0 = λ x. IsBehind g.D.PageDisk.tells g.D.PageDisk.told g.D.PageDisk.space_pages o (made x c.args.instance c.in-Ok.lists.history disk) frames in
-    subst C (sym c.in-Ok.ensures.lists.0) (subst H (sym c.in-Ok.ensures.lists.1) (behind_open g.D.PageDisk.tells g.D.PageDisk.told g.D.PageDisk.space_pages o (g.D.PageDisk.page_size disk) config c.args.instance disk frames
+    let H : List Entry → Type 0 = λ h. IsBehind g.D.PageDisk.seen o (made config c.args.instance h disk) frames in
+    let C : Config → Type 0 = λ x. IsBehind g.D.PageDisk.seen o (made x c.args.instance c.in-Ok.lists.history disk) frames in
+    subst C (sym c.in-Ok.ensures.lists.0) (subst H (sym c.in-Ok.ensures.lists.1) (behind_open g.D.PageDisk.seen o config c.args.instance disk frames
     (λ p silent. laws.silent disk p silent) c.requires.size opening))

@@ -15,7 +15,7 @@ loop-at-init g c =
 pub try_frame-requires-clause-tied : goal.try_frame-requires-clause-tied
 try_frame-requires-clause-tied g c = λ κs within.
     let P = g.D.PageDisk in
-    tied_looked P.tells P.told P.space_pages (g.F.Frames.seen c.args.frames.now) (g.F.Frames.seen c.loop-at.frames) c.args.self.now.state c.loop-at.invariant.0.looked c.requires.tied
+    tied_looked P.seen (g.F.Frames.seen c.args.frames.now) (g.F.Frames.seen c.loop-at.frames) c.args.self.now.state c.loop-at.invariant.0.looked c.requires.tied
 
 pub returns-in-Ok-Some-clause-stops : goal.returns-in-Ok-Some-clause-stops
 returns-in-Ok-Some-clause-stops g c = λ pages are.

@@ -31,20 +31,20 @@ returns-in-Ok-append-clause-logged g c = λ before.
 
 pub returns-in-Ok-append-clause-behind : goal.returns-in-Ok-append-clause-behind
 returns-in-Ok-append-clause-behind g c = λ o before.
-    c.change.ensures.behind o (subst (λ (d : State g.row.D.Denot). IsBehind g.D.PageDisk.tells g.D.PageDisk.told g.D.PageDisk.space_pages o d (g.F.Frames.seen c.args.frames.now)) (sym c.room_for_put.ensures.same) before)
+    c.change.ensures.behind o (subst (λ (d : State g.row.D.Denot). IsBehind g.D.PageDisk.seen o d (g.F.Frames.seen c.args.frames.now)) (sym c.room_for_put.ensures.same) before)
 
 pub returns-in-Err-clause-tied : goal.returns-in-Err-clause-tied
 returns-in-Err-clause-tied g c =
     let s : FramesSeen = g.F.Frames.seen c.args.frames.now in
     let mid : State g.row.D.Denot = c.room_for_put.new.self.state in
-    let was : AreTied g.D.PageDisk.tells g.D.PageDisk.told g.D.PageDisk.space_pages s mid = subst (λ (x : State g.row.D.Denot). AreTied g.D.PageDisk.tells g.D.PageDisk.told g.D.PageDisk.space_pages s x) (sym c.room_for_put.ensures.same) c.requires.tied in
-    refused_tied g.D.PageDisk.tells g.D.PageDisk.told g.D.PageDisk.space_pages s (g.F.Frames.seen c.append-in-Err.new.frames) mid c.append-in-Err.new.self.state c.args.by _ _
+    let was : AreTied g.D.PageDisk.seen s mid = subst (λ (x : State g.row.D.Denot). AreTied g.D.PageDisk.seen s x) (sym c.room_for_put.ensures.same) c.requires.tied in
+    refused_tied g.D.PageDisk.seen s (g.F.Frames.seen c.append-in-Err.new.frames) mid c.append-in-Err.new.self.state c.args.by _ _
     c.append-in-Err.ensures.appended c.append-in-Err.ensures.disk c.append-in-Err.ensures.seen was
 
 pub returns-in-Err-clause-behind : goal.returns-in-Err-clause-behind
 returns-in-Err-clause-behind g c = λ o before.
     let s : FramesSeen = g.F.Frames.seen c.args.frames.now in
     let mid : State g.row.D.Denot = c.room_for_put.new.self.state in
-    let was : IsBehind g.D.PageDisk.tells g.D.PageDisk.told g.D.PageDisk.space_pages o mid s = subst (λ (x : State g.row.D.Denot). IsBehind g.D.PageDisk.tells g.D.PageDisk.told g.D.PageDisk.space_pages o x s) (sym c.room_for_put.ensures.same) before in
-    refused_behind g.D.PageDisk.tells g.D.PageDisk.told g.D.PageDisk.space_pages o s (g.F.Frames.seen c.append-in-Err.new.frames) mid c.append-in-Err.new.self.state c.args.by _ _
+    let was : IsBehind g.D.PageDisk.seen o mid s = subst (λ (x : State g.row.D.Denot). IsBehind g.D.PageDisk.seen o x s) (sym c.room_for_put.ensures.same) before in
+    refused_behind g.D.PageDisk.seen o s (g.F.Frames.seen c.append-in-Err.new.frames) mid c.append-in-Err.new.self.state c.args.by _ _
     c.append-in-Err.ensures.appended c.append-in-Err.ensures.disk c.append-in-Err.ensures.seen was

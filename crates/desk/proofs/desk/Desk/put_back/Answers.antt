@@ -1,5 +1,5 @@
 use Rattle.std.proofs.Common.{◌≡◌, ◌<◌, ℕ, IfSome, length, ap, ◌∙◌, sym, subst}
-use Rattle.trail.specs.Alone.{cause_words}
+use Rattle.trail.specs.Words.{cause_words}
 use Rattle.trail.specs.declared.event.Cause.{Cause}
 use Rattle.trail.specs.declared.event.Kind.TheVariants as kind
 use Rattle.frame_words.specs.Appends.{FitsRefusal}
@@ -18,7 +18,7 @@ pub publish-requires : goal.publish-requires
 publish-requires g c =
     let v = c.args.victim in
     let P = g.D.PageDisk in
-    record { may = may_publish P.tells P.told P.space_pages (g.F.Frames.seen c.args.frames.now) c.args.self.now.state v.page v.frame v.clock c.requires.but c.requires.clock.0 c.requires.clock.1 }
+    record { may = may_publish P.seen (g.F.Frames.seen c.args.frames.now) c.args.self.now.state v.page v.frame v.clock c.requires.but c.requires.clock.0 c.requires.clock.1 }
 
 pub append-requires-clause-frames : goal.append-requires-clause-frames
 append-requires-clause-frames g c = λ κs within.
@@ -29,15 +29,15 @@ append-requires-clause-frames g c = λ κs within.
     let desk = c.args.self.now.state in
     let looks : t ≡ with_row s v.frame (published_row (row_at s v.frame) v.page (row_at s v.frame).clock) =
     c.publish.ensures.seen ∙ ap (λ (n : ℕ). with_row s v.frame (published_row (row_at s v.frame) v.page n)) c.requires.clock.0 in
-    let tied = subst (λ (u : FramesSeen). AreTied P.tells P.told P.space_pages u desk) (sym looks) (tied_back P.tells P.told P.space_pages s desk v.page v.frame c.requires.but) in
+    let tied = subst (λ (u : FramesSeen). AreTied P.seen u desk) (sym looks) (tied_back P.seen s desk v.page v.frame c.requires.but) in
     let turn = subst (λ (u : FramesSeen). HasTurn u c.args.by) (sym looks) c.requires.turn in
     let own = subst (λ (u : FramesSeen). IsOwn u desk c.args.page) (sym looks) c.requires.own in
     let few = subst (λ (u : FramesSeen). IfSome u.opened (λ opened. length opened < 64)) (sym looks) c.requires.few in
     let cause_is = c.causes_of-cause.ensures.0 in
     subst (λ (why : Cause). MayAppend t (next_entry desk c.args.by (kind.Refused c.args.call why))) (sym cause_is)
-    (may_refuse P.tells P.told P.space_pages t desk c.args.by c.args.page c.args.call (cause_of c.args.error) tied turn own c.requires.asked
+    (may_refuse P.seen t desk c.args.by c.args.page c.args.call (cause_of c.args.error) tied turn own c.requires.asked
     (each_some t.opened (λ o. FitsRefusal o c.args.call (cause_of c.args.error)) (λ o is. fault_fits o c.args.call c.args.error (at_some t.opened (λ x. length x < 64) o few is)))
-    (each_some t.found (λ found. AreFound found (cause_words (cause_of c.args.error))) (λ found is. fault_words found c.args.error)))
+    (each_some t.found (λ found. AreFound found (cause_words c.args.call (cause_of c.args.error))) (λ found is. fault_words found c.args.call c.args.error)))
 
 pub returns-clause-tied : goal.returns-clause-tied
 returns-clause-tied g c =
@@ -47,6 +47,6 @@ returns-clause-tied g c =
     let desk = c.args.self.now.state in
     let looks : g.F.Frames.seen c.publish.new.self ≡ with_row s v.frame (published_row (row_at s v.frame) v.page (row_at s v.frame).clock) =
     c.publish.ensures.seen ∙ ap (λ (n : ℕ). with_row s v.frame (published_row (row_at s v.frame) v.page n)) c.requires.clock.0 in
-    let tied = subst (λ (u : FramesSeen). AreTied P.tells P.told P.space_pages u desk) (sym looks) (tied_back P.tells P.told P.space_pages s desk v.page v.frame c.requires.but) in
-    refused_tied P.tells P.told P.space_pages (g.F.Frames.seen c.publish.new.self) (g.F.Frames.seen c.append.new.frames) desk c.append.new.self.state c.args.by c.args.call _
+    let tied = subst (λ (u : FramesSeen). AreTied P.seen u desk) (sym looks) (tied_back P.seen s desk v.page v.frame c.requires.but) in
+    refused_tied P.seen (g.F.Frames.seen c.publish.new.self) (g.F.Frames.seen c.append.new.frames) desk c.append.new.self.state c.args.by c.args.call _
     tied c.append.ensures.appended c.append.ensures.disk c.append.ensures.seen

@@ -23,7 +23,7 @@ append-requires-clause-frames g c = λ κs within.
     let P = g.D.PageDisk in
     let k = kind.Refused c.args.call (cause.AllFixed c.of-seen.result) in
     let are = all_are desk.config desk.history s.rows s.found c.args.passed.items c.in_order-words.result.items c.requires.orderly c.requires.passed c.in_order-words.ensures.same c.in_order-words.ensures.rising in
-    may_append P.tells P.told P.space_pages s desk c.args.by k tt tied.history c.requires.turn tied.none_owed (published_tied P.tells P.told P.space_pages s desk tied)
+    may_append P.seen s desk c.args.by k tt tied.history c.requires.turn tied.none_owed (published_tied P.seen s desk tied)
     (λ is. asked_ours (history_of desk) c.args.page c.args.call c.requires.asked (c.requires.own is)) tt
     (each_some s.opened (λ o. FitsOpen o k) (λ o is. λ takes. at_some s.opened (λ x. length x < 64) o c.requires.few is))
     (subst (λ (l : List (ℕ × Word)). IfSome s.found (λ now. AreFound now l)) (sym c.of-seen.ensures) are.noted)
@@ -44,7 +44,7 @@ returns-clause-refused g c = λ disk_was disk_is durable log_was log_is.
 pub returns-clause-tied : goal.returns-clause-tied
 returns-clause-tied g c =
     let P = g.D.PageDisk in
-    refused_tied P.tells P.told P.space_pages (g.F.Frames.seen c.args.frames.now) (g.F.Frames.seen c.append.new.frames) c.args.self.now.state c.append.new.self.state c.args.by c.args.call (cause.AllFixed c.of-seen.result)
+    refused_tied P.seen (g.F.Frames.seen c.args.frames.now) (g.F.Frames.seen c.append.new.frames) c.args.self.now.state c.append.new.self.state c.args.by c.args.call (cause.AllFixed c.of-seen.result)
     c.requires.tied c.append.ensures.appended c.append.ensures.disk c.append.ensures.seen
 
 pub returns-clause-behind : goal.returns-clause-behind
@@ -52,8 +52,8 @@ returns-clause-behind g c = λ o before.
     let P = g.D.PageDisk in
     let s = g.F.Frames.seen c.args.frames.now in
     let t = g.F.Frames.seen c.append.new.frames in
-    behind_frames P.tells P.told P.space_pages o c.append.new.self.state s t (ap (λ (u : FramesSeen). u.rows) c.append.ensures.seen) (ap (λ (u : FramesSeen). u.base) c.append.ensures.seen)
-    (refused_behind P.tells P.told P.space_pages o s c.args.self.now.state c.append.new.self.state c.args.by c.args.call (cause.AllFixed c.of-seen.result) c.append.ensures.appended c.append.ensures.disk before)
+    behind_frames P.seen o c.append.new.self.state s t (ap (λ (u : FramesSeen). u.rows) c.append.ensures.seen) (ap (λ (u : FramesSeen). u.base) c.append.ensures.seen)
+    (refused_behind P.seen o s c.args.self.now.state c.append.new.self.state c.args.by c.args.call (cause.AllFixed c.of-seen.result) c.append.ensures.appended c.append.ensures.disk before)
 
 pub returns-clause-upto : goal.returns-clause-upto
 returns-clause-upto g c = λ m h were.

@@ -13,7 +13,7 @@ use Rattle.desk.proofs.desk.Desk.seek.Goals as goal
 pub pass-requires-in-Ok-None-clause-tied : goal.pass-requires-in-Ok-None-clause-tied
 pass-requires-in-Ok-None-clause-tied g c = λ κs within.
     let P = g.D.PageDisk in
-    tied_looked P.tells P.told P.space_pages (g.F.Frames.seen c.args.frames.now) (g.F.Frames.seen c.pass.new.frames) c.args.self.now.state
+    tied_looked P.seen (g.F.Frames.seen c.args.frames.now) (g.F.Frames.seen c.pass.new.frames) c.args.self.now.state
     (at_none c.in-Ok-None.field-0 _ c.in-Ok-None.ensures.looked c.in-Ok-None.field-0-is) c.requires.tied
 
 pub returns-in-Ok-None-clause-looked : goal.returns-in-Ok-None-clause-looked

@@ -1,5 +1,5 @@
 use Rattle.std.proofs.Common.{◌+◌, ◌<◌, ◌^◌, subst, sym}
-use Rattle.trail.specs.Places.{mark}
+use Rattle.trail.specs.Trails.{mark}
 use Rattle.frame_words.specs.Conditions.{MayPublish}
 use Rattle.frame_words.specs.Seen.{FramesSeen}
 use Rattle.desk.proofs.Making.{may_show}
@@ -14,6 +14,6 @@ publish-requires g c =
     record {
       may = subst (λ n. MayPublish (g.F.Frames.seen c.append.new.frames) c.args.frame c.args.page n) (sym place)
           (subst (λ (x : FramesSeen). MayPublish x c.args.frame c.args.page (mark old.config.first old.history + 1)) (sym c.append.ensures.seen)
-          (may_show g.D.PageDisk.tells g.D.PageDisk.told g.D.PageDisk.space_pages old.config old.instance old.history old.disk s c.args.by c.args.page c.args.frame c.args.span.start c.args.span.end c.args.now
+          (may_show g.D.PageDisk.seen old.config old.instance old.history old.disk s c.args.by c.args.page c.args.frame c.args.span.start c.args.span.end c.args.now
           c.requires.below c.requires.vacant early c.requires.image c.requires.tied));
     }

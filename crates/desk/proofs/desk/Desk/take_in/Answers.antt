@@ -1,5 +1,5 @@
 use Rattle.std.proofs.Common.{◌≡◌, ◌+◌, ◌<◌, ◌^◌, length, arith, subst, sym, ap, ◌∙◌}
-use Rattle.trail.specs.Places.{mark}
+use Rattle.trail.specs.Trails.{mark}
 use Rattle.trail.specs.declared.event.Kind.TheVariants as kind
 use Rattle.frame_words.specs.Conditions.{MayPublish}
 use Rattle.frame_words.specs.Seen.{FramesSeen}
@@ -20,7 +20,7 @@ publish-requires g c =
     record {
       may = subst (λ n. MayPublish (g.F.Frames.seen c.append.new.frames) c.args.frame c.args.page n) (sym place)
           (subst (λ (x : FramesSeen). MayPublish x c.args.frame c.args.page (mark old.config.first old.history + 1)) (sym c.append.ensures.seen)
-          (may_publish g.D.PageDisk.tells g.D.PageDisk.told g.D.PageDisk.space_pages old.config old.instance old.history old.disk s c.args.by c.args.page c.args.frame image.0
+          (may_publish g.D.PageDisk.seen old.config old.instance old.history old.disk s c.args.by c.args.page c.args.frame image.0
           c.requires.below c.requires.vacant c.requires.clean c.requires.inside early image.1.image image.1.read c.requires.tied));
     }
 
@@ -36,9 +36,9 @@ returns-clause-tied g c =
     published s (g.F.Frames.seen c.append.new.frames) (g.F.Frames.seen c.publish.new.self) old.config.first old.history c.args.by c.args.page f (c.mark-place.result + 1)
     c.append.ensures.seen c.publish.ensures.seen place in
     let image = c.requires.image in
-    tied_on g.D.PageDisk.tells g.D.PageDisk.told g.D.PageDisk.space_pages old c.append.new.self.state c.args.by (kind.Load c.args.page f) (g.F.Frames.seen c.publish.new.self) _
+    tied_on g.D.PageDisk.seen old c.append.new.self.state c.args.by (kind.Load c.args.page f) (g.F.Frames.seen c.publish.new.self) _
     c.append.ensures.appended c.append.ensures.disk seen
-    (tied_loaded g.D.PageDisk.tells g.D.PageDisk.told g.D.PageDisk.space_pages old.config old.instance old.history old.disk s c.args.by c.args.page f image.0
+    (tied_loaded g.D.PageDisk.seen old.config old.instance old.history old.disk s c.args.by c.args.page f image.0
     c.requires.below c.requires.vacant c.requires.absent c.requires.clean c.requires.inside c.requires.caller.own image.1.image image.1.read c.requires.tied)
 
 pub returns-clause-behind : goal.returns-clause-behind
@@ -53,8 +53,8 @@ returns-clause-behind g c = λ o based before.
     published s (g.F.Frames.seen c.append.new.frames) (g.F.Frames.seen c.publish.new.self) old.config.first old.history c.args.by c.args.page f (c.mark-place.result + 1)
     c.append.ensures.seen c.publish.ensures.seen place in
     let image = c.requires.image in
-    let inside = below_rows g.D.PageDisk.tells g.D.PageDisk.told g.D.PageDisk.space_pages s old f c.requires.tied c.requires.below in
-    behind_on g.D.PageDisk.tells g.D.PageDisk.told g.D.PageDisk.space_pages o old c.append.new.self.state c.args.by (kind.Load c.args.page f) (g.F.Frames.seen c.publish.new.self) _
+    let inside = below_rows g.D.PageDisk.seen s old f c.requires.tied c.requires.below in
+    behind_on g.D.PageDisk.seen o old c.append.new.self.state c.args.by (kind.Load c.args.page f) (g.F.Frames.seen c.publish.new.self) _
     c.append.ensures.appended c.append.ensures.disk seen
-    (behind_loaded g.D.PageDisk.tells g.D.PageDisk.told g.D.PageDisk.space_pages o old.config old.instance old.history old.disk s c.args.by c.args.page f image.0
+    (behind_loaded g.D.PageDisk.seen o old.config old.instance old.history old.disk s c.args.by c.args.page f image.0
     inside c.requires.vacant c.requires.clean c.requires.inside image.1.image image.1.read (λ none. (c.requires.tied.shared f inside none).1) based before)

@@ -15,7 +15,7 @@ loop-written-init g c = record {
   end = refl;
   unused = λ none. (refl, refl);
   room = omega arith;
-  leaves = leaves_same g.D.PageDisk.page_size g.D.PageDisk.tells g.D.PageDisk.space_pages g.D.PageDisk.fault_count c.args.self.now.state;
+  leaves = leaves_same g.D.PageDisk.seen c.args.self.now.state;
   rows = refl;
   tied = c.requires.tied;
   turn = c.requires.turn;
@@ -80,11 +80,11 @@ returns-in-Err-clause-upto g c =
 
 pub returns-in-Err-clause-fault : goal.returns-in-Err-clause-fault
 returns-in-Err-clause-fault g c =
-    fault_wider (g.D.PageDisk.fault_count c.loop-written.self.state.disk) (g.D.PageDisk.fault_count c.write_back.new.self.state.disk) c.loop-written.redo.seen.faults c.write_back.new.redo.seen.faults
-    (g.D.PageDisk.fault_count c.args.self.now.state.disk) c.args.redo.now.seen.faults c.in-Err.error c.loop-written.invariant.leaves.later c.loop-written.invariant.later.faults c.in-Err.ensures.fault
+    fault_wider (g.D.PageDisk.seen c.loop-written.self.state.disk).faults (g.D.PageDisk.seen c.write_back.new.self.state.disk).faults c.loop-written.redo.seen.faults c.write_back.new.redo.seen.faults
+    (g.D.PageDisk.seen c.args.self.now.state.disk).faults c.args.redo.now.seen.faults c.in-Err.error c.loop-written.invariant.leaves.later c.loop-written.invariant.later.faults c.in-Err.ensures.fault
 
 pub returns-in-Err-clause-desk : goal.returns-in-Err-clause-desk
-returns-in-Err-clause-desk g c = leaves_on g.D.PageDisk.page_size g.D.PageDisk.tells g.D.PageDisk.space_pages g.D.PageDisk.fault_count c.args.self.now.state c.loop-written.self.state c.write_back.new.self.state c.loop-written.invariant.leaves c.write_back.ensures.desk
+returns-in-Err-clause-desk g c = leaves_on g.D.PageDisk.seen c.args.self.now.state c.loop-written.self.state c.write_back.new.self.state c.loop-written.invariant.leaves c.write_back.ensures.desk
 
 pub returns-in-Err-clause-logged : goal.returns-in-Err-clause-logged
 returns-in-Err-clause-logged g c = λ before. c.write_back.ensures.logged (c.loop-written.invariant.logged before)
@@ -127,7 +127,7 @@ loop-written-preserved g c =
       writes = writes_more first c.args.by c.loop-written.written old mid new c.loop-written.invariant.writes wrote;
       unused = λ none. absurd (omega (arith, none));
       room = omega (arith, c.loop-written.invariant.room, c.write_back.ensures.room);
-      leaves = leaves_on g.D.PageDisk.page_size g.D.PageDisk.tells g.D.PageDisk.space_pages g.D.PageDisk.fault_count c.args.self.now.state c.loop-written.self.state c.write_back.new.self.state c.loop-written.invariant.leaves c.write_back.ensures.desk;
+      leaves = leaves_on g.D.PageDisk.seen c.args.self.now.state c.loop-written.self.state c.write_back.new.self.state c.loop-written.invariant.leaves c.write_back.ensures.desk;
       rows = c.write_back.ensures.rows ∙ c.loop-written.invariant.rows;
       tied = c.write_back.ensures.tied;
       turn = c.write_back.ensures.turn;

@@ -15,14 +15,14 @@ invariant-loop-written g l = record {
   end : l.redo.seen.end ≡ l.fn.redo.seen.end;
   unused : l.written ≡ 0 → (l.self.state.disk ≡ l.fn.self.state.disk) × (l.redo ≡ l.fn.redo);
   room : l.fn.self.room ≤ l.self.room + l.written;
-  leaves : LeavesDesk g.D.PageDisk.page_size g.D.PageDisk.tells g.D.PageDisk.space_pages g.D.PageDisk.fault_count l.fn.self.state l.self.state;
+  leaves : LeavesDesk g.D.PageDisk.seen l.fn.self.state l.self.state;
   rows : (g.F.Frames.seen l.frames).rows ≡ (g.F.Frames.seen l.fn.frames).rows;
-  tied : AreTied g.D.PageDisk.tells g.D.PageDisk.told g.D.PageDisk.space_pages (g.F.Frames.seen l.frames) l.self.state;
+  tied : AreTied g.D.PageDisk.seen (g.F.Frames.seen l.frames) l.self.state;
   turn : HasTurn (g.F.Frames.seen l.frames) l.by;
   logged : IsLogged l.fn.redo.seen l.fn.self.state.history → IsLogged l.redo.seen l.self.state.history;
   known : log_end l.self.state.history ≤ l.redo.seen.end;
   later : IsLater l.fn.redo.seen l.redo.seen;
   opening : l.redo.opening ≡ l.fn.redo.opening;
   kept : IsKept l.fn.redo.seen (g.R.RedoDisk.told l.fn.redo.disk) → IsKept l.redo.seen (g.R.RedoDisk.told l.redo.disk);
-  behind : (o : Opened) → IsBehind g.D.PageDisk.tells g.D.PageDisk.told g.D.PageDisk.space_pages o l.fn.self.state (g.F.Frames.seen l.fn.frames) → IsBehind g.D.PageDisk.tells g.D.PageDisk.told g.D.PageDisk.space_pages o l.self.state (g.F.Frames.seen l.frames);
+  behind : (o : Opened) → IsBehind g.D.PageDisk.seen o l.fn.self.state (g.F.Frames.seen l.fn.frames) → IsBehind g.D.PageDisk.seen o l.self.state (g.F.Frames.seen l.frames);
 }

@@ -22,7 +22,7 @@ invariant_of-self g c =
     let was = c.self.invariant in (
       told.others.sizes ∙ was.0,
       told.buffer ∙ was.1,
-      λ p f here. still_inside g.D.PageDisk.space_pages c.self.inside.disk c.write_page-written.new.disk p told.others.spaces_are (was.2 p f here),
+      λ p f here. still_inside g.D.PageDisk.seen c.self.inside.disk c.write_page-written.new.disk p told.others.spaces_are (was.2 p f here),
     )
 
 pub write_page-written-requires-clause-known : goal.write_page-written-requires-clause-known

@@ -1,7 +1,7 @@
 use Rattle.std.proofs.Common.{◌≡◌, ◌∙◌, ◌+◌, ◌∷◌, None, rules, refl, sym, subst, reverse}
 use Rattle.std.specs.HashMap.{get, Updates}
 use Rattle.page_ids.specs.Same.{same_page}
-use Rattle.trail.specs.Places.{mark}
+use Rattle.trail.specs.Trails.{mark}
 use Rattle.desk.specs.Ledger.{Ledger}
 use Rattle.desk.specs.KeptLists.{in_turn}
 use Rattle.desk.proofs.ListsKept.{kept_as, kept_evict, pushed, front_none, next_is}

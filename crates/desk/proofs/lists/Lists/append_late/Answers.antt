@@ -1,5 +1,5 @@
 use Rattle.std.proofs.Common.{◌≡◌, ◌+◌, ◌∷◌, refl, sym, subst, reverse}
-use Rattle.trail.specs.Places.{mark}
+use Rattle.trail.specs.Trails.{mark}
 use Rattle.desk.specs.Ledger.{Ledger}
 use Rattle.desk.proofs.ListsKept.{kept_as, kept_late, pushed}
 use Rattle.desk.proofs.lists.Lists.append_late.Goals as goal

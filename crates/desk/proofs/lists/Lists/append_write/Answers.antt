@@ -1,5 +1,5 @@
 use Rattle.std.proofs.Common.{◌≡◌, ◌+◌, ◌∷◌, Some, None, rules, refl, sym, subst, reverse}
-use Rattle.trail.specs.Places.{mark}
+use Rattle.trail.specs.Trails.{mark}
 use Rattle.trail.specs.History.{home}
 use Rattle.desk.specs.Ledger.{Ledger}
 use Rattle.desk.proofs.ListsKept.{kept_as, kept_write, kept_write_away, pushed}

@@ -1,7 +1,7 @@
 use Rattle.std.proofs.Common.{◌≡◌, ◌<◌, ℕ, Some, None, rules, subst, reverse, IfSome}
 use Rattle.page_ids.specs.declared.ids.PageId.{PageId}
 use Rattle.trail.specs.History.{home}
-use Rattle.trail.specs.Book.{book, next_frame}
+use Rattle.trail.specs.Book.{book, frame_in_turn}
 use Rattle.desk.specs.Ledger.{Ledger, IsVacant}
 use Rattle.desk.specs.Walk.{AreOrderly}
 use Rattle.desk.proofs.ListsWalk.{orderly, next_vacant, all_used}
@@ -11,7 +11,7 @@ pub returns-in-None-clause-vacant : goal.returns-in-None-clause-vacant
 returns-in-None-clause-vacant c =
     let s = c.self.inside in
     let h = reverse s.history.items in
-    let is : c.copied.result ≡ next_frame (book s.config h) = search rules in
+    let is : c.copied.result ≡ frame_in_turn (book s.config h) = search rules in
     subst (λ (l : Ledger). IfSome c.copied.result (λ f. IsVacant l.history f)) c.self.view_is
     (next_vacant s.config h _ _ _ _ _ _ _ _ c.self.invariant c.copied.result is)
 
@@ -19,7 +19,7 @@ pub returns-in-None-clause-none : goal.returns-in-None-clause-none
 returns-in-None-clause-none c =
     let s = c.self.inside in
     let h = reverse s.history.items in
-    let is : c.copied.result ≡ next_frame (book s.config h) = search rules in
+    let is : c.copied.result ≡ frame_in_turn (book s.config h) = search rules in
     subst (λ (l : Ledger). c.copied.result ≡ None → (f : ℕ) → f < l.config.frames → (p : PageId) × (home l.history p ≡ Some f)) c.self.view_is
     (all_used s.config h _ _ _ _ _ _ _ _ c.self.invariant c.copied.result is)
 

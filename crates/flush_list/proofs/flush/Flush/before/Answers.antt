@@ -1,20 +1,43 @@
-use Rattle.std.proofs.Common.{◌≡◌, ◌∙◌, ◌-◌, ◌<◌, suc, Some, None, ap, length, sym, arith}
+use Rattle.std.proofs.Common.{◌≡◌, ◌∙◌, ◌+◌, ◌++◌, ◌∷◌, None, map, ap, sym, subst}
+use Rattle.std.specs.Prelude.{IfSome}
 use Rattle.std.specs.Option.{option_map}
-use Rattle.std.proofs.lemmas.Option.{get_or_from_slice_get}
-use Rattle.flush_list.specs.View.{Node, place_of}
-use Rattle.flush_list.proofs.Places.{before_first, before_at}
+use Rattle.link_lists.specs.Chains.{Has}
+use Rattle.link_lists.proofs.Times.{none_before}
+use Rattle.flush_list.specs.View.{Node, place_of, next_up}
+use Rattle.flush_list.specs.Inside.{node_of, frames_of}
+use Rattle.flush_list.proofs.Frames.{before_is, before_place}
+use Rattle.flush_list.proofs.Kept.{listed_is, is_in}
 use Rattle.flush_list.proofs.flush.Flush.before.Goals as goal
 
-pub returns-then-at-eq0-clause-next : goal.returns-then-at-eq0-clause-next
-returns-then-at-eq0-clause-next c =
-    let xs = c.args.self.now.listed in
-    sym (ap (option_map (λ (x : Node). x.frame)) (before_first None c.args.frame xs (omega (arith, c.place-at.ensures, c.if-at-eq0.true)) (omega (arith, c.requires))))
+pub prev-requires : goal.prev-requires
+prev-requires c =
+    let a = c.self.inside in
+    let laws = c.a_chain_is_one_list.ensures in
+    record { present = laws.present a.nodes a.chain (frames_of a) c.args.frame c.self.invariant.chain (is_in a c.args.self.now c.self.view_is c.args.frame c.requires) }
 
 pub returns-clause-next : goal.returns-clause-next
 returns-clause-next c =
-    let xs = c.args.self.now.listed in
-    let next = c.place-at.result - 1 in
-    let node : Node = record { frame = c.at.result.frame; oldest = c.at.result.oldest } in
-    let place : place_of c.args.frame xs ≡ suc next = omega (arith, c.place-at.ensures, c.if-at-eq0.false) in
-    let within : suc next < length xs = omega (arith, place, c.requires) in
-    sym (ap (option_map (λ (x : Node). x.frame)) (before_at None c.args.frame xs next node place within ∙ ap Some (get_or_from_slice_get xs next node node c.at.ensures.node)))
+    let a = c.self.inside in
+    let f = c.args.frame in
+    let laws = c.a_chain_is_one_list.ensures in
+    let h : Has a.nodes a.chain f = laws.present a.nodes a.chain (frames_of a) f c.self.invariant.chain (is_in a c.args.self.now c.self.view_is f c.requires) in
+    let front = h.0 in
+    let back = h.1 in
+    let whole : frames_of a ≡ front ++ f ∷ back = laws.found a.nodes a.chain (front ++ f ∷ back) h.2 in
+    c.prev.ensures front back h.2
+    ∙ sym (before_is a.oldest.items None f front back (none_before f front back (h.2.once f)))
+    ∙ ap (λ xs. option_map (λ (x : Node). x.frame) (next_up f (map (node_of a.oldest.items) xs))) (sym whole)
+    ∙ ap (λ xs. option_map (λ (x : Node). x.frame) (next_up f xs)) (listed_is a c.args.self.now c.self.view_is)
+
+pub returns-clause-step : goal.returns-clause-step
+returns-clause-step c =
+    let a = c.self.inside in
+    let f = c.args.frame in
+    let laws = c.a_chain_is_one_list.ensures in
+    let h : Has a.nodes a.chain f = laws.present a.nodes a.chain (frames_of a) f c.self.invariant.chain (is_in a c.args.self.now c.self.view_is f c.requires) in
+    let front = h.0 in
+    let back = h.1 in
+    let whole : frames_of a ≡ front ++ f ∷ back = laws.found a.nodes a.chain (front ++ f ∷ back) h.2 in
+    let listed = ap (map (node_of a.oldest.items)) (sym whole) ∙ listed_is a c.args.self.now c.self.view_is in
+    subst (λ xs. IfSome c.prev.result (λ n. place_of n xs + 1 ≡ place_of f xs)) listed
+    (before_place a.oldest.items f front back c.prev.result h.2.once (c.prev.ensures front back h.2))

@@ -1,18 +1,17 @@
-use Rattle.std.proofs.Common.{arith}
-use Rattle.frame_book.specs.View.{undone}
-use Rattle.frame_book.specs.Inside.{view_of}
-use Rattle.frame_book.proofs.Order.{order-as, order-undone, few_listed}
+use Rattle.std.proofs.Common.{◌≡◌, ◌∙◌, ◌+◌, ◌*◌, ◌-◌, ◌<◌, ◌≤◌, ◌++◌, ◌∷◌, [], ℕ, List, Option, Some, None, true, false, not, max, length, drop, refl, sym, ap, subst, arith, nat_le, unwrap_or}
+use Rattle.std.specs.Prelude.{IfSome, filter}
+use Rattle.frame_book.specs.View.{View, IsInOrder, IsInUse, IsAllWithdrawn, frames_of, is_inside, front, taken, grown, undone, withdrawing, finished}
+use Rattle.frame_book.specs.Lists.{Pair}
+use Rattle.frame_book.specs.Inside.{view_of, IsKept}
+use Rattle.frame_book.proofs.Order.{order-undone}
 use Rattle.frame_book.proofs.book.Book.undo_withdraw.Goals as goal
-
-pub put_back-requires : goal.put_back-requires
-put_back-requires c = record {
-  room = omega (arith, few_listed (view_of c.self.inside) c.self.invariant.order, c.self.invariant.free_room);
-}
 
 pub invariant_of-self : goal.invariant_of-self
 invariant_of-self c =
-    let v = view_of c.self.inside in record {
-      order = order-as (undone v) _ _ c.put_back.ensures.free c.put_back.ensures.withdrawn (order-undone v c.self.invariant.order);
-      free_room = omega (arith, c.put_back.ensures.room.0, c.self.invariant.free_room);
-      withdrawn_room = omega (arith, c.put_back.ensures.room.1, c.self.invariant.withdrawn_room);
+    let a = c.self.inside in
+    let k = c.self.invariant in
+    let room = ap (λ (q : Pair). q.room) c.put_back.ensures in record {
+      order = subst (λ (q : Pair). IsInOrder (view_of (record a { area = None; lists = q }))) (sym c.put_back.ensures) (order-undone (view_of a) k.order);
+      enough = omega (arith, k.enough, room);
+      most = omega (arith, k.most, room);
     }

@@ -2,7 +2,8 @@ use Rattle.std.proofs.Common.{◌≡◌, ◌++◌, ◌∷◌, ℕ, Some, ap, sub
 use Rattle.link_lists.specs.declared.nodes.Link.{Link}
 use Rattle.link_lists.specs.Grid.{times, Leaves}
 use Rattle.link_lists.specs.Chains.{Ends}
-use Rattle.link_lists.proofs.Written.{keeps_from, leaves_more, times-cons}
+use Rattle.link_lists.proofs.Times.{times-cons}
+use Rattle.link_lists.proofs.Written.{keeps_from, leaves_more}
 use Rattle.link_lists.proofs.Cuts.{chain_without, one_list, node_within, neighbours, none_left}
 use Rattle.link_lists.proofs.chain.Chain.replace.Goals as goal
 

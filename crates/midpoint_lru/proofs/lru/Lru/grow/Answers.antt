@@ -1,14 +1,19 @@
-use Rattle.std.proofs.Common.{ap, length, arith}
-use Rattle.midpoint_lru.specs.Inside.{view_of}
+use Rattle.std.proofs.Common.{◌≡◌, max, sym, ap, subst, arith}
+use Rattle.std.proofs.Math.Nat.{le-max_left}
+use Rattle.midpoint_lru.specs.Parts.{Parts}
+use Rattle.midpoint_lru.specs.Inside.{view_of, IsKept}
 use Rattle.midpoint_lru.proofs.Frames.{frames-grow}
 use Rattle.midpoint_lru.proofs.lru.Lru.grow.Goals as goal
 
-pub invariant_of-self-then-self-frames : goal.invariant_of-self-then-self-frames
-invariant_of-self-then-self-frames c = record {
-  percent = c.self.invariant.percent;
-  counted = c.self.invariant.counted;
-  fits = c.ranges.frames.fits;
-  enough = omega (arith, c.try_reserve.ensures.len, c.len.ensures, c.in_ok-try_reserve.ensures.ok);
-  few = omega (arith, ap length c.try_reserve.ensures.items, c.self.invariant.few);
-  frames = rw c.try_reserve.ensures.items (frames-grow (view_of c.self.inside) c.args.frames (omega arith) c.self.invariant.frames);
-}
+pub invariant_of-self-2 : goal.invariant_of-self-2
+invariant_of-self-2 c =
+    let a = c.self.inside in
+    let k = c.self.invariant in
+    let more = le-max_left a.parts.room c.args.frames in
+    subst (λ (q : Parts). IsKept (record a { parts = q })) (sym c.in_ok-grow.ensures.ok) (record {
+      percent = k.percent;
+      counted = k.counted;
+      few = omega (arith, k.few, more);
+      exact = k.exact;
+      frames = frames-grow (view_of a) (max a.parts.room c.args.frames) more k.frames;
+    })

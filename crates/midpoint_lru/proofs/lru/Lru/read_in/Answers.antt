@@ -1,43 +1,51 @@
-use Rattle.std.proofs.Common.{◌∙◌, ℕ, ap, subst, sym, length, None, arith}
-use Rattle.std.specs.Prelude.{map, insert}
-use Rattle.std.proofs.lemmas.List.Edits.{length-insert}
-use Rattle.page_ids.specs.Midpoint.{Listed}
-use Rattle.page_ids.proofs.midpoint.Renaming.{map-insert}
-use Rattle.midpoint_lru.specs.declared.lru.Node.{Node}
+use Rattle.std.proofs.Common.{◌≡◌, ◌∙◌, ◌+◌, ◌-◌, ◌<◌, ◌≤◌, ◌==◌, ◌∷◌, ℕ, true, false, not, nat_lt, cond, List, None, Some, length, refl, sym, ap, subst, arith, unwrap_or}
+use Rattle.std.specs.Prelude.{insert, remove, slice_get, slice_set}
+use Rattle.page_ids.specs.Midpoint.{Listed, place_of, old_length, young_length, read_in, touch, evict, relocate}
 use Rattle.midpoint_lru.specs.View.{View}
-use Rattle.midpoint_lru.specs.Inside.{AreFrames, listed_of}
+use Rattle.midpoint_lru.specs.Parts.{Parts}
+use Rattle.midpoint_lru.specs.Inside.{view_of, AreFrames}
+use Rattle.page_ids.proofs.midpoint.Order.{length-read_in}
 use Rattle.midpoint_lru.proofs.Frames.{frames-read_in, few_listed}
-use Rattle.midpoint_lru.proofs.Views.{length_is, room_is, frames_of}
+use Rattle.midpoint_lru.proofs.Rules.{frames_of, few_of, room_is, evicts_is, seen}
 use Rattle.midpoint_lru.proofs.lru.Lru.read_in.Goals as goal
+
+pub put_between-requires : goal.put_between-requires
+put_between-requires c =
+    let a = c.self.inside in
+    let v = c.args.self.now in
+    let few = few_listed v c.args.frame (frames_of a v c.self.view_is c.self.invariant) c.requires in
+    let room = room_is a v c.self.view_is in
+    let away = c.requires.away in record {
+      room = omega (arith, c.requires.room, room);
+      away = λ l. away (subst (λ (w : View). place_of ◌==◌ c.args.frame w.order.listed < length w.order.listed) c.self.view_is l);
+      more = omega (arith, few, room, ap (λ (w : View). length w.order.listed) c.self.view_is);
+    }
 
 pub returns : goal.returns
 returns c =
-    let node : Listed ℕ = record { key = c.args.frame; first = None; since = c.self.inside.evicts } in
-    let at_is = rw (← c.self.view_is) at c.midpoint-at.ensures.at in
-    let items = ap (map listed_of) c.put.ensures.items ∙ map-insert listed_of c.self.inside.listed.items _ _ ∙ ap (λ i. insert (map listed_of c.self.inside.listed.items) i node) at_is in
-    rw (← c.self.view_is)
-    (ap (λ xs. let r : View = record {
-      numbers = record { pct = c.self.inside.pct; time = c.self.inside.time; min = c.self.inside.min };
-      order = record { listed = xs; evicts = c.self.inside.evicts };
-      room = c.self.inside.room;
-    } in r) items)
+    let a = c.self.inside in
+    let v = c.args.self.now in
+    let node : Listed ℕ = record { key = c.args.frame; first = None; since = a.evicts } in
+    let both = λ (q : Parts). q.listed in
+    let listed = ap both c.settle.ensures ∙ ap both c.put_between.ensures
+    ∙ ap (λ n. insert a.parts.listed (cond (n == 0) 0 (length a.parts.listed - n)) node) c.self.invariant.exact in
+    let room = ap (λ (q : Parts). q.room) c.settle.ensures ∙ ap (λ (q : Parts). q.room) c.put_between.ensures in
+    seen a v c.self.view_is c.settle.new.self a.evicts (read_in v.numbers c.args.frame v.order)
+    (subst (λ (w : View). c.settle.new.self.listed ≡ (read_in w.numbers c.args.frame w.order).listed) c.self.view_is listed) (evicts_is a v c.self.view_is) room
 
 pub invariant_of-self : goal.invariant_of-self
 invariant_of-self c =
-    let node : Node = record { frame = c.args.frame; first = None; since = c.self.inside.evicts } in
-    let frames = frames_of c.self.inside c.args.self.now c.self.view_is c.self.invariant in
-    let few = few_listed c.args.self.now c.args.frame frames c.requires in
-    let len = length_is c.self.inside c.args.self.now c.self.view_is in
-    let room = room_is c.self.inside c.args.self.now c.self.view_is in record {
+    let a = c.self.inside in
+    let v = c.args.self.now in
+    let frames = frames_of a v c.self.view_is c.self.invariant in
+    let settled = c.settle.ensures in
+    let exact = ap (λ (q : Parts). q.old_len) settled ∙ c.old_length-old.ensures.old a.time
+    ∙ ap (old_length (view_of a).numbers) (c.len.ensures ∙ ap (λ (q : Parts). length q.listed) (sym settled)) in
+    let few = few_listed v c.args.frame frames c.requires in
+    let len = length-read_in v.numbers c.args.frame v.order in record {
       percent = c.self.invariant.percent;
       counted = c.self.invariant.counted;
-      fits = c.self.invariant.fits;
-      enough = omega (arith, c.put.ensures.room, c.self.invariant.enough);
-      few = omega (arith, ap length c.put.ensures.items, length-insert c.self.inside.listed.items c.midpoint-at.result node (omega (arith, c.midpoint-at.ensures.within, len)), few, len, room);
-      frames = subst AreFrames (sym (returns c)) (frames-read_in c.args.self.now c.args.frame frames c.requires);
+      few = subst (λ (w : View). length w.order.listed ≤ w.room) (sym (returns c)) (omega (arith, few, len));
+      exact = exact;
+      frames = subst AreFrames (sym (returns c)) (frames-read_in v c.args.frame frames c.requires);
     }
-
-pub put-requires-clause-room : goal.put-requires-clause-room
-put-requires-clause-room c =
-    let few = few_listed c.args.self.now c.args.frame (frames_of c.self.inside c.args.self.now c.self.view_is c.self.invariant) c.requires in
-    omega (arith, few, length_is c.self.inside c.args.self.now c.self.view_is, room_is c.self.inside c.args.self.now c.self.view_is, c.self.invariant.enough)

@@ -1,25 +1,42 @@
-use Rattle.std.proofs.Common.{◌∙◌, ap, map, set, subst, sym, arith}
-use Rattle.std.proofs.lemmas.List.{length-set}
-use Rattle.midpoint_lru.specs.Inside.{AreFrames, listed_of}
-use Rattle.midpoint_lru.proofs.Frames.{frames-relocate}
-use Rattle.midpoint_lru.proofs.Views.{length_is, with_listed, relocated, frames_of}
+use Rattle.std.proofs.Common.{◌≡◌, ◌∙◌, ◌+◌, ◌-◌, ◌<◌, ◌≤◌, ◌==◌, ◌∷◌, ℕ, true, false, not, nat_lt, cond, List, None, Some, length, get_or, refl, sym, ap, subst, arith, unwrap_or}
+use Rattle.std.specs.Prelude.{insert, remove, slice_get, slice_set}
+use Rattle.page_ids.specs.Midpoint.{Listed, place_of, old_length, young_length, read_in, touch, evict, relocate}
+use Rattle.midpoint_lru.specs.View.{View}
+use Rattle.midpoint_lru.specs.Parts.{Parts}
+use Rattle.midpoint_lru.specs.Inside.{view_of, AreFrames}
+use Rattle.std.proofs.lemmas.Option.{slice_get-get_or}
+use Rattle.page_ids.proofs.midpoint.Order.{length-relocate}
+use Rattle.midpoint_lru.proofs.Frames.{blank, frames-relocate}
+use Rattle.midpoint_lru.proofs.Rules.{frames_of, few_of, is_in, evicts_is, seen, relocated_is}
 use Rattle.midpoint_lru.proofs.lru.Lru.relocate.Goals as goal
 
 pub returns : goal.returns
 returns c =
-    let len = length_is c.self.inside c.args.self.now c.self.view_is in
-    with_listed c.self.inside c.args.self.now c.self.view_is _ _
-    (ap (λ node. map listed_of (set c.self.inside.listed.items c.place-at.result node)) c.in_frame.ensures
-    ∙ relocated c.self.inside c.args.self.now c.self.view_is c.place-at.result c.index-node.result.now (omega (arith, c.place-at.ensures, c.requires.listed, len)) c.index-node.ensures
-    c.args.old c.args.new c.place-at.ensures)
+    let a = c.self.inside in
+    let v = c.args.self.now in
+    let old = c.args.old in
+    let new = c.args.new in
+    let x = get_or a.parts.listed (place_of ◌==◌ old a.parts.listed) blank in
+    let there = slice_get-get_or a.parts.listed (place_of ◌==◌ old a.parts.listed) blank (is_in a v c.self.view_is old c.requires.listed) in
+    let replaced = c.replace.ensures x there in
+    let listed = ap (λ (q : Parts). q.listed) replaced ∙ sym (relocated_is (view_of a) old new x there) in
+    seen a v c.self.view_is c.replace.new.self a.evicts (relocate ◌==◌ old new v.order)
+    (subst (λ (w : View). c.replace.new.self.listed ≡ (relocate ◌==◌ old new w.order).listed) c.self.view_is listed) (evicts_is a v c.self.view_is) (ap (λ (q : Parts). q.room) replaced)
 
 pub invariant_of-self : goal.invariant_of-self
 invariant_of-self c =
-    let frames = frames_of c.self.inside c.args.self.now c.self.view_is c.self.invariant in record {
+    let a = c.self.inside in
+    let v = c.args.self.now in
+    let old = c.args.old in
+    let new = c.args.new in
+    let x = get_or a.parts.listed (place_of ◌==◌ old a.parts.listed) blank in
+    let there = slice_get-get_or a.parts.listed (place_of ◌==◌ old a.parts.listed) blank (is_in a v c.self.view_is old c.requires.listed) in
+    let replaced = c.replace.ensures x there in
+    let len = length-relocate ◌==◌ old new v.order in
+    let same = ap (λ (w : View). length w.order.listed) (returns c) ∙ len ∙ ap (λ (w : View). length w.order.listed) (sym c.self.view_is) in record {
       percent = c.self.invariant.percent;
       counted = c.self.invariant.counted;
-      fits = c.self.invariant.fits;
-      enough = c.self.invariant.enough;
-      few = omega (arith, c.self.invariant.few, length-set c.self.inside.listed.items c.place-at.result c.in_frame.result);
-      frames = subst AreFrames (sym (returns c)) (frames-relocate c.args.self.now c.args.old c.args.new frames c.requires.listed c.requires.new);
+      few = subst (λ (w : View). length w.order.listed ≤ w.room) (sym (returns c)) (omega (arith, len, few_of a v c.self.view_is c.self.invariant));
+      exact = ap (λ (q : Parts). q.old_len) replaced ∙ c.self.invariant.exact ∙ ap (old_length (view_of a).numbers) (sym same);
+      frames = subst AreFrames (sym (returns c)) (frames-relocate v old new (frames_of a v c.self.view_is c.self.invariant) c.requires.listed c.requires.new);
     }

@@ -1,31 +1,36 @@
-use Rattle.std.proofs.Common.{◌∙◌, ◌+◌, ap, subst, sym, arith}
-use Rattle.std.specs.Prelude.{map, remove}
-use Rattle.page_ids.proofs.midpoint.Renaming.{map-remove}
+use Rattle.std.proofs.Common.{◌≡◌, ◌∙◌, ◌+◌, ◌-◌, ◌<◌, ◌≤◌, ◌==◌, ◌∷◌, ℕ, true, false, not, nat_lt, cond, List, None, Some, length, refl, sym, ap, subst, arith, unwrap_or}
+use Rattle.std.specs.Prelude.{insert, remove, slice_get, slice_set}
+use Rattle.page_ids.specs.Midpoint.{Listed, place_of, old_length, young_length, read_in, touch, evict, relocate}
 use Rattle.midpoint_lru.specs.View.{View}
-use Rattle.midpoint_lru.specs.Inside.{AreFrames, listed_of}
+use Rattle.midpoint_lru.specs.Parts.{Parts}
+use Rattle.midpoint_lru.specs.Inside.{view_of, AreFrames}
+use Rattle.page_ids.proofs.midpoint.Order.{length-evict}
 use Rattle.midpoint_lru.proofs.Frames.{frames-evict}
-use Rattle.midpoint_lru.proofs.Views.{frames_of}
+use Rattle.midpoint_lru.proofs.Rules.{frames_of, few_of, evicts_is, seen}
 use Rattle.midpoint_lru.proofs.lru.Lru.remove.Goals as goal
 
 pub returns : goal.returns
 returns c =
-    let at_is = rw (← c.self.view_is) at c.place-at.ensures in
-    let items = ap (map listed_of) c.remove.ensures.items ∙ map-remove listed_of c.self.inside.listed.items _ ∙ ap (λ i. remove (map listed_of c.self.inside.listed.items) i) at_is in
-    rw (← c.self.view_is)
-    (ap (λ xs. let r : View = record {
-      numbers = record { pct = c.self.inside.pct; time = c.self.inside.time; min = c.self.inside.min };
-      order = record { listed = xs; evicts = c.self.inside.evicts + 1 };
-      room = c.self.inside.room;
-    } in r) items)
+    let a = c.self.inside in
+    let v = c.args.self.now in
+    let both = λ (q : Parts). q.listed in
+    let listed = ap both c.settle.ensures ∙ ap both c.take.ensures in
+    let room = ap (λ (q : Parts). q.room) c.settle.ensures ∙ ap (λ (q : Parts). q.room) c.take.ensures in
+    seen a v c.self.view_is c.settle.new.self (a.evicts + 1) (evict ◌==◌ c.args.frame v.order)
+    (subst (λ (w : View). c.settle.new.self.listed ≡ (evict ◌==◌ c.args.frame w.order).listed) c.self.view_is listed) (ap {B = ℕ} (λ n. n + 1) (evicts_is a v c.self.view_is)) room
 
 pub invariant_of-self : goal.invariant_of-self
 invariant_of-self c =
-    let frames = frames_of c.self.inside c.args.self.now c.self.view_is c.self.invariant in
-    let evicts = ap (λ (v : View). v.order.evicts) c.self.view_is in record {
+    let a = c.self.inside in
+    let v = c.args.self.now in
+    let frames = frames_of a v c.self.view_is c.self.invariant in
+    let settled = c.settle.ensures in
+    let exact = ap (λ (q : Parts). q.old_len) settled ∙ c.old_length-old.ensures.old a.time
+    ∙ ap (old_length (view_of a).numbers) (c.len.ensures ∙ ap (λ (q : Parts). length q.listed) (sym settled)) in
+    let len = length-evict ◌==◌ c.args.frame v.order c.requires.listed in record {
       percent = c.self.invariant.percent;
-      counted = omega (arith, c.requires.few, evicts);
-      fits = c.self.invariant.fits;
-      enough = omega (arith, c.remove.ensures.capacity, c.self.invariant.enough);
-      few = omega (arith, c.remove.ensures.len, c.self.invariant.few);
-      frames = subst AreFrames (sym (returns c)) (frames-evict c.args.self.now c.args.frame frames c.requires.listed);
+      counted = omega (arith, c.requires.few, evicts_is a v c.self.view_is);
+      few = subst (λ (w : View). length w.order.listed ≤ w.room) (sym (returns c)) (omega (arith, len, few_of a v c.self.view_is c.self.invariant));
+      exact = exact;
+      frames = subst AreFrames (sym (returns c)) (frames-evict v c.args.frame frames c.requires.listed);
     }

@@ -1,62 +1,124 @@
-use Rattle.std.proofs.Common.{◌∙◌, ◌<◌, ap, cond, ◌∷◌, subst, sym, length, map, unwrap_or, set, Some, arith}
-use Rattle.std.proofs.lemmas.List.{length-set}
-use Rattle.midpoint_lru.specs.declared.lru.Node.{Node}
+use Rattle.std.proofs.Common.{◌≡◌, ◌∙◌, ◌+◌, ◌-◌, ◌<◌, ◌≤◌, ◌==◌, ◌∷◌, ℕ, Bool, true, false, not, nat_lt, cond, List, None, Some, length, refl, sym, ap, subst, arith, unwrap_or}
+use Rattle.std.specs.Prelude.{insert, remove, slice_get, slice_set}
+use Rattle.page_ids.specs.Midpoint.{Listed, place_of, old_length, young_length, read_in, touch, evict, relocate}
+use Rattle.midpoint_lru.specs.View.{View}
+use Rattle.midpoint_lru.specs.Parts.{Parts}
+use Rattle.midpoint_lru.specs.Inside.{view_of, AreFrames}
+use Rattle.std.proofs.lemmas.List.Edits.{length-remove}
+use Rattle.page_ids.proofs.midpoint.Order.{length-touch}
 use Rattle.midpoint_lru.specs.declared.lru.Touch.{Touch}
 use Rattle.midpoint_lru.specs.declared.lru.Touch.TheVariants.{Stayed, Young}
-use Rattle.midpoint_lru.specs.Inside.{AreFrames, listed_of}
-use Rattle.midpoint_lru.proofs.Frames.{frames-touch}
-use Rattle.midpoint_lru.proofs.Views.{length_is, with_listed, test_is, moved, stayed, frames_of}
+use Rattle.midpoint_lru.proofs.Frames.{frames-touch, below_there, out_after}
+use Rattle.midpoint_lru.proofs.Rules.{frames_of, few_of, is_in, room_is, evicts_is, seen, young_is, touched_is}
 use Rattle.midpoint_lru.proofs.lru.Lru.touch.Goals as goal
+
+pub put_first-requires : goal.put_first-requires
+put_first-requires c =
+    let a = c.self.inside in
+    let v = view_of a in
+    let f = c.args.frame in
+    let k = c.self.invariant in
+    let there = is_in a c.args.self.now c.self.view_is f c.requires in
+    let room = ap (λ (q : Parts). q.room) c.take.ensures in
+    let listed = ap (λ (q : Parts). q.listed) c.take.ensures in
+    let len = length-remove a.parts.listed (place_of ◌==◌ f a.parts.listed) there in record {
+      room = omega (arith, room, below_there v f k.frames there);
+      away = λ l. out_after v f k.frames there (subst (λ xs. place_of ◌==◌ f xs < length xs) listed l);
+      more = omega (arith, room, ap length listed, len, k.few);
+    }
 
 pub returns-then-moves-clause-order : goal.returns-then-moves-clause-order
 returns-then-moves-clause-order c =
-    let len = length_is c.self.inside c.args.self.now c.self.view_is in
-    let within : c.place-at.result < length c.self.inside.listed.items = omega (arith, c.place-at.ensures, c.requires, len) in
-    let young = sym (test_is c.self.inside c.args.self.now c.self.view_is c.place-at.result c.index-node.result.now within c.index-node.ensures
-    c.args.frame c.args.now c.place-at.ensures c.moves.result c.moves.ensures) ∙ c.if-moves.true in
-    let node : Node = record { frame = c.index-node.result.now.frame; first = Some (unwrap_or c.index-node.result.now.first c.args.now); since = c.self.inside.evicts } in
-    with_listed c.self.inside c.args.self.now c.self.view_is _ _
-    (ap (map listed_of) (c.put.ensures.items ∙ ap (λ n. n ∷ c.remove.new.self.items) c.touched-node.ensures ∙ ap (λ xs. node ∷ xs) c.remove.ensures.items)
-    ∙ moved c.self.inside c.args.self.now c.self.view_is c.place-at.result c.index-node.result.now within c.index-node.ensures
-    c.args.frame c.args.now c.place-at.ensures young)
+    let a = c.self.inside in
+    let v = c.args.self.now in
+    let f = c.args.frame in
+    let x : Listed ℕ = record { key = f; first = c.member-member.result.first; since = c.member-member.result.since } in
+    let found = subst (λ (w : View). slice_get w.order.listed (place_of ◌==◌ f w.order.listed) ≡ Some x) c.self.view_is c.member-member.ensures.found in
+    let mark = subst (λ (w : View). c.member-member.result.is_old ≡ not (nat_lt (place_of ◌==◌ f w.order.listed) (young_length w.numbers (length w.order.listed)))) c.self.view_is
+    (c.member-member.ensures.old ∙ ap (λ n. not (nat_lt (place_of ◌==◌ f a.parts.listed) (length a.parts.listed - n))) c.self.invariant.exact) in
+    let judged = c.moves.ensures (place_of ◌==◌ f v.order.listed) x refl refl mark in
+    let test = sym c.if-moves.true ∙ judged in
+    let listed_of = λ (q : Parts). q.listed in
+    let room_of = λ (q : Parts). q.room in
+    let node = λ (first since : ℕ). let y : Listed ℕ = record { key = f; first = Some first; since = since } in y in
+    let listed : c.settle.new.self.listed ≡ node (unwrap_or x.first c.args.now) a.evicts ∷ remove a.parts.listed (place_of ◌==◌ f a.parts.listed) =
+    ap listed_of c.settle.ensures ∙ ap listed_of c.put_first.ensures
+    ∙ ap (λ n. node n a.evicts ∷ c.take.new.self.listed) c.unwrap_or.ensures
+    ∙ ap (λ ys. node (unwrap_or x.first c.args.now) a.evicts ∷ ys) (ap listed_of c.take.ensures) in
+    let moved = subst (λ (w : View). c.settle.new.self.listed ≡ node (unwrap_or x.first c.args.now) w.order.evicts ∷ remove w.order.listed (place_of ◌==◌ f w.order.listed)) c.self.view_is listed in
+    seen a v c.self.view_is c.settle.new.self a.evicts (touch ◌==◌ v.numbers f c.args.now v.order)
+    (moved ∙ sym (touched_is v f c.args.now x found true test)) (evicts_is a v c.self.view_is)
+    (ap room_of c.settle.ensures ∙ ap room_of c.put_first.ensures ∙ ap room_of c.take.ensures)
 
 pub returns-then-moves-clause-answer : goal.returns-then-moves-clause-answer
 returns-then-moves-clause-answer c =
-    let len = length_is c.self.inside c.args.self.now c.self.view_is in
-    let within : c.place-at.result < length c.self.inside.listed.items = omega (arith, c.place-at.ensures, c.requires, len) in
-    let young = sym (test_is c.self.inside c.args.self.now c.self.view_is c.place-at.result c.index-node.result.now within c.index-node.ensures
-    c.args.frame c.args.now c.place-at.ensures c.moves.result c.moves.ensures) ∙ c.if-moves.true in
-    sym (ap (λ b. cond {A = Touch} b Young Stayed) young)
+    let a = c.self.inside in
+    let v = c.args.self.now in
+    let f = c.args.frame in
+    let x : Listed ℕ = record { key = f; first = c.member-member.result.first; since = c.member-member.result.since } in
+    let found = subst (λ (w : View). slice_get w.order.listed (place_of ◌==◌ f w.order.listed) ≡ Some x) c.self.view_is c.member-member.ensures.found in
+    let mark = subst (λ (w : View). c.member-member.result.is_old ≡ not (nat_lt (place_of ◌==◌ f w.order.listed) (young_length w.numbers (length w.order.listed)))) c.self.view_is
+    (c.member-member.ensures.old ∙ ap (λ n. not (nat_lt (place_of ◌==◌ f a.parts.listed) (length a.parts.listed - n))) c.self.invariant.exact) in
+    let judged = c.moves.ensures (place_of ◌==◌ f v.order.listed) x refl refl mark in
+    sym (ap (λ b. cond {A = Touch} b Young Stayed) (young_is v f c.args.now x found true (sym c.if-moves.true ∙ judged)))
 
 pub returns-else-moves-clause-order : goal.returns-else-moves-clause-order
 returns-else-moves-clause-order c =
-    let len = length_is c.self.inside c.args.self.now c.self.view_is in
-    let within : c.place-at.result < length c.self.inside.listed.items = omega (arith, c.place-at.ensures, c.requires, len) in
-    let old = sym (test_is c.self.inside c.args.self.now c.self.view_is c.place-at.result c.index-node.result.now within c.index-node.ensures
-    c.args.frame c.args.now c.place-at.ensures c.moves.result c.moves.ensures) ∙ c.if-moves.false in
-    with_listed c.self.inside c.args.self.now c.self.view_is _ _
-    (ap (λ node. map listed_of (set c.self.inside.listed.items c.place-at.result node)) c.touched.ensures
-    ∙ stayed c.self.inside c.args.self.now c.self.view_is c.place-at.result c.index-node.result.now within c.index-node.ensures
-    c.args.frame c.args.now c.place-at.ensures old)
+    let a = c.self.inside in
+    let v = c.args.self.now in
+    let f = c.args.frame in
+    let x : Listed ℕ = record { key = f; first = c.member-member.result.first; since = c.member-member.result.since } in
+    let found = subst (λ (w : View). slice_get w.order.listed (place_of ◌==◌ f w.order.listed) ≡ Some x) c.self.view_is c.member-member.ensures.found in
+    let mark = subst (λ (w : View). c.member-member.result.is_old ≡ not (nat_lt (place_of ◌==◌ f w.order.listed) (young_length w.numbers (length w.order.listed)))) c.self.view_is
+    (c.member-member.ensures.old ∙ ap (λ n. not (nat_lt (place_of ◌==◌ f a.parts.listed) (length a.parts.listed - n))) c.self.invariant.exact) in
+    let judged = c.moves.ensures (place_of ◌==◌ f v.order.listed) x refl refl mark in
+    let test = sym c.if-moves.false ∙ judged in
+    let wrote = c.set_first.ensures x c.member-member.ensures.found in
+    let node = λ (first : ℕ). let y : Listed ℕ = record { key = f; first = Some first; since = x.since } in y in
+    let listed = ap (λ (q : Parts). q.listed) wrote ∙ ap (λ n. slice_set a.parts.listed (place_of ◌==◌ f a.parts.listed) (node n)) c.unwrap_or.ensures in
+    let stayed = subst (λ (w : View). c.set_first.new.self.listed ≡ slice_set w.order.listed (place_of ◌==◌ f w.order.listed) (node (unwrap_or x.first c.args.now))) c.self.view_is listed in
+    seen a v c.self.view_is c.set_first.new.self a.evicts (touch ◌==◌ v.numbers f c.args.now v.order)
+    (stayed ∙ sym (touched_is v f c.args.now x found false test)) (evicts_is a v c.self.view_is) (ap (λ (q : Parts). q.room) wrote)
+
+pub returns-else-moves-clause-answer : goal.returns-else-moves-clause-answer
+returns-else-moves-clause-answer c =
+    let a = c.self.inside in
+    let v = c.args.self.now in
+    let f = c.args.frame in
+    let x : Listed ℕ = record { key = f; first = c.member-member.result.first; since = c.member-member.result.since } in
+    let found = subst (λ (w : View). slice_get w.order.listed (place_of ◌==◌ f w.order.listed) ≡ Some x) c.self.view_is c.member-member.ensures.found in
+    let mark = subst (λ (w : View). c.member-member.result.is_old ≡ not (nat_lt (place_of ◌==◌ f w.order.listed) (young_length w.numbers (length w.order.listed)))) c.self.view_is
+    (c.member-member.ensures.old ∙ ap (λ n. not (nat_lt (place_of ◌==◌ f a.parts.listed) (length a.parts.listed - n))) c.self.invariant.exact) in
+    let judged = c.moves.ensures (place_of ◌==◌ f v.order.listed) x refl refl mark in
+    sym (ap (λ b. cond {A = Touch} b Young Stayed) (young_is v f c.args.now x found false (sym c.if-moves.false ∙ judged)))
 
 pub invariant_of-self : goal.invariant_of-self
 invariant_of-self c =
-    let frames = frames_of c.self.inside c.args.self.now c.self.view_is c.self.invariant in record {
+    let a = c.self.inside in
+    let v = c.args.self.now in
+    let is = returns-then-moves-clause-order c in
+    let settled = c.settle.ensures in
+    let exact = ap (λ (q : Parts). q.old_len) settled ∙ c.old_length-old.ensures.old a.time
+    ∙ ap (old_length (view_of a).numbers) (c.len.ensures ∙ ap (λ (q : Parts). length q.listed) (sym settled)) in
+    let len = length-touch ◌==◌ v.numbers c.args.frame c.args.now v.order in record {
       percent = c.self.invariant.percent;
       counted = c.self.invariant.counted;
-      fits = c.self.invariant.fits;
-      enough = omega (arith, c.put.ensures.room, c.remove.ensures.capacity, c.self.invariant.enough);
-      few = omega (arith, ap length c.put.ensures.items, c.remove.ensures.len, c.self.invariant.few);
-      frames = subst AreFrames (sym (returns-then-moves-clause-order c)) (frames-touch c.args.self.now c.args.frame c.args.now frames);
+      few = subst (λ (w : View). length w.order.listed ≤ w.room) (sym is) (omega (arith, len, few_of a v c.self.view_is c.self.invariant));
+      exact = exact;
+      frames = subst AreFrames (sym is) (frames-touch v c.args.frame c.args.now (frames_of a v c.self.view_is c.self.invariant));
     }
 
 pub invariant_of-self-else-moves : goal.invariant_of-self-else-moves
 invariant_of-self-else-moves c =
-    let frames = frames_of c.self.inside c.args.self.now c.self.view_is c.self.invariant in record {
+    let a = c.self.inside in
+    let v = c.args.self.now in
+    let x : Listed ℕ = record { key = c.args.frame; first = c.member-member.result.first; since = c.member-member.result.since } in
+    let is = returns-else-moves-clause-order c in
+    let len = length-touch ◌==◌ v.numbers c.args.frame c.args.now v.order in
+    let same = ap (λ (w : View). length w.order.listed) is ∙ len ∙ ap (λ (w : View). length w.order.listed) (sym c.self.view_is) in record {
       percent = c.self.invariant.percent;
       counted = c.self.invariant.counted;
-      fits = c.self.invariant.fits;
-      enough = c.self.invariant.enough;
-      few = omega (arith, c.self.invariant.few, length-set c.self.inside.listed.items c.place-at.result c.touched.result);
-      frames = subst AreFrames (sym (returns-else-moves-clause-order c)) (frames-touch c.args.self.now c.args.frame c.args.now frames);
+      few = subst (λ (w : View). length w.order.listed ≤ w.room) (sym is) (omega (arith, len, few_of a v c.self.view_is c.self.invariant));
+      exact = ap (λ (q : Parts). q.old_len) (c.set_first.ensures x c.member-member.ensures.found) ∙ c.self.invariant.exact ∙ ap (old_length (view_of a).numbers) (sym same);
+      frames = subst AreFrames (sym is) (frames-touch v c.args.frame c.args.now (frames_of a v c.self.view_is c.self.invariant));
     }

@@ -7,28 +7,27 @@ use Rattle.script_run.specs.Openings.{opened_of}
 use Rattle.script_run.specs.Work.{Progress, StandsBehind}
 use Rattle.script_run.proofs.Growing.{on_some}
 use Rattle.script_run.specs.Workers.{working}
-use Rattle.script_run.specs.Work.{senses}
 use Rattle.script_run.proofs.Along.{along_more}
 use Rattle.script_run.proofs.Progress.{progress_more}
 use Rattle.script_run.proofs.worker.Worker.do_all.Goals as goal
 
 pub loop-command-preserved : goal.loop-command-preserved
 loop-command-preserved g c =
-    let sense = senses g.D.PageDisk.page_size g.D.PageDisk.tells g.D.PageDisk.told g.D.PageDisk.space_pages g.D.PageDisk.fault_count in
+    let seen = g.D.PageDisk.seen in
     let l = c.loop-command in
     let i = l.command-index in
     let commands = c.args.commands.now in
     let here : Command = c.command-item.result in
     let next : drop i commands ≡ here ∷ drop (i + 1) commands = drop_more commands i here (omega arith) ∙ ap (λ x. x ∷ drop (i + 1) commands) (sym c.command-item.is) in
     let R : List Command → Type 0 = λ cs. AllByRecursion (IsInRange c.args.desk.now.state.config.page) cs in
-    let along = along_more sense i c.args.desk.now.state l.desk.state c.step.new.desk.state c.args.frames.now l.frames c.step.new.frames c.args.redo.now.seen l.redo.seen c.step.new.redo.seen (working c.args.self.now) (working l.self) (working c.step.new.self) l.invariant.0 c.in_ok-step.ensures.along in (
+    let along = along_more seen i c.args.desk.now.state l.desk.state c.step.new.desk.state c.args.frames.now l.frames c.step.new.frames c.args.redo.now.seen l.redo.seen c.step.new.redo.seen (working c.args.self.now) (working l.self) (working c.step.new.self) l.invariant.0 c.in_ok-step.ensures.along in (
       along,
       (subst R next l.invariant.1).1,
       λ o start past so stands.
-          let P : List Command → Type 0 = λ cs. Progress sense o start l.desk.state l.redo.seen (working l.self) past commands cs in
+          let P : List Command → Type 0 = λ cs. Progress seen o start l.desk.state l.redo.seen (working l.self) past commands cs in
           let so_far = subst P next (l.invariant.2 o start past so stands) in
-          let here_behind : StandsBehind sense o start l.desk.state l.frames = on_some o.base _ _ (λ base is behind. l.invariant.0.behind (opened_of o start base) behind) stands in
-          progress_more sense o start l.desk.state c.step.new.desk.state l.redo.seen c.step.new.redo.seen (working l.self) (working c.step.new.self) past commands here (drop (i + 1) commands) c.in_ok-step.ensures.along.pass so_far
+          let here_behind : StandsBehind seen o start l.desk.state l.frames = on_some o.base _ _ (λ base is behind. l.invariant.0.behind (opened_of o start base) behind) stands in
+          progress_more seen o start l.desk.state c.step.new.desk.state l.redo.seen c.step.new.redo.seen (working l.self) (working c.step.new.self) past commands here (drop (i + 1) commands) c.in_ok-step.ensures.along.pass so_far
           (c.in_ok-step.ensures.done o start (so_far.more ++ past) so_far.so_far here_behind),
       c.step.ensures.opening ∙ l.invariant.3,
     )

@@ -1,19 +1,18 @@
 use Rattle.std.proofs.Common.{◌≡◌, List, [], drop}
 use Rattle.std.specs.List.{AllByRecursion}
 use Rattle.trail.specs.declared.event.Event.{Event}
-use Rattle.trail.specs.Opening.{Opening}
+use Rattle.trail.specs.Trails.{Opening}
 use Rattle.script_text.specs.Within.{IsInRange}
 use Rattle.script_run.specs.Openings.{Start}
 use Rattle.script_run.specs.Work.{SoFar, StandsBehind, Along, Progress}
 use Rattle.script_run.specs.Workers.{working}
-use Rattle.script_run.specs.Work.{senses}
 use Rattle.script_run.proofs.worker.Worker.do_all.Given as goal
 
 abbrev pub invariant-loop-command : goal.invariant-loop-command
 invariant-loop-command g l =
-    let sense = senses g.D.PageDisk.page_size g.D.PageDisk.tells g.D.PageDisk.told g.D.PageDisk.space_pages g.D.PageDisk.fault_count in
-    Along sense l.command-index l.fn.desk.state l.desk.state l.fn.frames l.frames l.fn.redo.seen l.redo.seen (working l.fn.self) (working l.self)
+    let seen = g.D.PageDisk.seen in
+    Along seen l.command-index l.fn.desk.state l.desk.state l.fn.frames l.frames l.fn.redo.seen l.redo.seen (working l.fn.self) (working l.self)
     × AllByRecursion (IsInRange l.fn.desk.state.config.page) (drop l.command-index l.commands)
-    × ((o : Opening) (start : Start) (past : List Event) → SoFar sense o start l.fn.desk.state l.fn.redo.seen (working l.fn.self) past [] → StandsBehind sense o start l.fn.desk.state l.fn.frames
-    → Progress sense o start l.desk.state l.redo.seen (working l.self) past l.commands (drop l.command-index l.commands))
+    × ((o : Opening) (start : Start) (past : List Event) → SoFar seen o start l.fn.desk.state l.fn.redo.seen (working l.fn.self) past [] → StandsBehind seen o start l.fn.desk.state l.fn.frames
+    → Progress seen o start l.desk.state l.redo.seen (working l.self) past l.commands (drop l.command-index l.commands))
     × (l.redo.opening ≡ l.fn.redo.opening)

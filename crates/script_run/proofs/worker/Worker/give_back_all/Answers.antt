@@ -1,6 +1,6 @@
 use Rattle.std.proofs.Common.{◌≡◌, ◌∷◌, List, [], length, reverse, rules, refl, ap, ◌∙◌, subst, arith}
 use Rattle.trail.specs.declared.event.Held.{Held}
-use Rattle.script_run.specs.Work.{senses, IsReady}
+use Rattle.script_run.specs.Work.{IsReady}
 use Rattle.script_run.proofs.Progress.{worked}
 use Rattle.script_run.proofs.worker.Worker.give_back_all.Goals as goal
 
@@ -21,12 +21,12 @@ loop-self-preserved g c =
 
 pub returns-clause-ready : goal.returns-clause-ready
 returns-clause-ready g c =
-    let sense = senses g.D.PageDisk.page_size g.D.PageDisk.tells g.D.PageDisk.told g.D.PageDisk.space_pages g.D.PageDisk.fault_count in
-    let R : List Held → Type 0 = λ fixed. IsReady sense c.args.desk.now.state c.loop-self.frames (reverse fixed) in
+    let seen = g.D.PageDisk.seen in
+    let R : List Held → Type 0 = λ fixed. IsReady seen c.args.desk.now.state c.loop-self.frames (reverse fixed) in
     subst R (items_none c.loop-self.self.fixed.items (search rules)) c.loop-self.invariant.2
 
 pub returns-clause-done : goal.returns-clause-done
 returns-clause-done g c =
-    let sense = senses g.D.PageDisk.page_size g.D.PageDisk.tells g.D.PageDisk.told g.D.PageDisk.space_pages g.D.PageDisk.fault_count in
+    let seen = g.D.PageDisk.seen in
     λ o start log past commands so.
-    worked sense o start c.args.desk.now.state log _ past commands (ap reverse (items_none c.loop-self.self.fixed.items (search rules))) (c.loop-self.invariant.4 o start log past commands so)
+    worked seen o start c.args.desk.now.state log _ past commands (ap reverse (items_none c.loop-self.self.fixed.items (search rules))) (c.loop-self.invariant.4 o start log past commands so)

@@ -1,23 +1,22 @@
 use Rattle.std.proofs.Common.{◌≡◌, ◌<◌, ◌+◌, ◌^◌, List, length, reverse}
 use Rattle.trail.specs.declared.event.Event.{Event}
-use Rattle.trail.specs.Opening.{Opening}
+use Rattle.trail.specs.Trails.{Opening}
 use Rattle.script_text.specs.declared.script.Command.{Command}
 use Rattle.redo_mark.specs.Logs.{Seen}
 use Rattle.script_run.specs.Openings.{Start}
 use Rattle.desk.specs.Base.{Opened}
 use Rattle.script_run.specs.Work.{Ending, IsReady, IsBehindIt}
 use Rattle.script_run.specs.Workers.{working}
-use Rattle.script_run.specs.Work.{senses}
 use Rattle.script_run.proofs.worker.Worker.give_back_all.Given as goal
 
 abbrev pub invariant-loop-self : goal.invariant-loop-self
 invariant-loop-self g l =
-    let sense = senses g.D.PageDisk.page_size g.D.PageDisk.tells g.D.PageDisk.told g.D.PageDisk.space_pages g.D.PageDisk.fault_count in
+    let seen = g.D.PageDisk.seen in
     (l.self.next + length l.self.fixed.items < 2 ^ 32) × (l.self.pass ≡ l.fn.self.pass)
-    × IsReady sense l.desk.state l.frames (reverse l.self.fixed.items)
-    × ((o : Opened) → IsBehindIt sense o l.desk.state l.fn.frames → IsBehindIt sense o l.desk.state l.frames)
-    × ((o : Opening) (start : Start) (log : Seen) (past : List Event) (commands : List Command) → Ending sense o start l.desk.state log (working l.fn.self) past commands
-    → Ending sense o start l.desk.state log (working l.self) past commands)
+    × IsReady seen l.desk.state l.frames (reverse l.self.fixed.items)
+    × ((o : Opened) → IsBehindIt seen o l.desk.state l.fn.frames → IsBehindIt seen o l.desk.state l.frames)
+    × ((o : Opening) (start : Start) (log : Seen) (past : List Event) (commands : List Command) → Ending seen o start l.desk.state log (working l.fn.self) past commands
+    → Ending seen o start l.desk.state log (working l.self) past commands)
 
 abbrev pub decreases-loop-self : goal.decreases-loop-self
 decreases-loop-self g l = length l.self.fixed.items

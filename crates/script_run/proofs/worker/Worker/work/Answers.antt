@@ -1,5 +1,4 @@
 use Rattle.script_run.specs.Workers.{working}
-use Rattle.script_run.specs.Work.{senses}
 use Rattle.script_run.proofs.Doing.{on_ok}
 use Rattle.script_run.proofs.Progress.{ending_start}
 use Rattle.script_run.proofs.worker.Worker.work.Goals as goal
@@ -9,6 +8,6 @@ returns-clause-behind g c = on_ok c.give_back_all.result _ _ (λ f o was. f o (c
 
 pub returns-clause-done : goal.returns-clause-done
 returns-clause-done g c =
-    let sense = senses g.D.PageDisk.page_size g.D.PageDisk.tells g.D.PageDisk.told g.D.PageDisk.space_pages g.D.PageDisk.fault_count in
+    let seen = g.D.PageDisk.seen in
     on_ok c.give_back_all.result _ _ (λ f o start past so stands.
-    f o start c.do_all.new.redo.seen past c.args.commands.now (ending_start sense o start c.do_all.new.desk.state c.do_all.new.redo.seen (working c.do_all.new.self) past c.args.commands.now (c.in_ok-do_all.ensures.done o start past so stands))) c.give_back_all.ensures.done
+    f o start c.do_all.new.redo.seen past c.args.commands.now (ending_start seen o start c.do_all.new.desk.state c.do_all.new.redo.seen (working c.do_all.new.self) past c.args.commands.now (c.in_ok-do_all.ensures.done o start past so stands))) c.give_back_all.ensures.done

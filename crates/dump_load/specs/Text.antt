@@ -1,0 +1,68 @@
+-- The text of a dump, as a relation between whole texts and lists of ids.
+use Rattle.std.specs.Prelude.{ℕ, List, [], ◌∷◌, ◌++◌, ◌≡◌, ◌≢◌, ◌==◌, ◌+◌, ◌<◌, ◌≤◌, ◌^◌, false, length, if◌then◌else◌}
+use Rattle.std.specs.Fmt.{decimal}
+use Rattle.std.specs.List.{AllByRecursion}
+use Rattle.page_ids.specs.declared.ids.PageId.{PageId}
+use Rattle.dump_load.specs.declared.text.TheConstants.{MOST_IDS}
+use Rattle.dump_load.specs.declared.text.DumpErr.{DumpErr}
+use Rattle.dump_load.specs.declared.text.DumpErr.TheVariants.{BadLine, TooMany, OutOfMemory}
+
+-- space and page with a comma between them
+abbrev pub id_line : PageId → List ℕ
+id_line p = decimal p.space ++ 44 ∷ decimal p.page
+
+-- a line for each id, each ended by a newline
+abbrev pub dump_text : List PageId → List ℕ
+dump_text [] = []
+dump_text (p ∷ ps) = id_line p ++ 10 ∷ dump_text ps
+
+-- both numbers fit their types
+abbrev pub IsId : PageId → Type 0
+IsId p = (p.space < 2 ^ 32) × (p.page < 2 ^ 32)
+
+abbrev pub AreIds : List PageId → Type 0
+AreIds ids = AllByRecursion IsId ids
+
+-- the text with the newline of its last line, which may be missing
+abbrev pub ended : List ℕ → List ℕ
+ended [] = []
+ended (b ∷ []) = if b == 10 then b ∷ [] else b ∷ 10 ∷ []
+ended (b ∷ c ∷ bs) = b ∷ ended (c ∷ bs)
+
+-- the bytes are a dump of these ids
+pub record IsDump (bytes : List ℕ) (ids : List PageId) : Type 0 where
+  pub typed : AreIds ids
+  pub text : ended bytes ≡ dump_text ids
+  pub few : length ids ≤ MOST_IDS
+
+-- no id is spelled so
+abbrev pub IsNoId : List ℕ → Type 0
+IsNoId line = (p : PageId) → IsId p → line ≢ id_line p
+
+-- this is the first bad line, from 1: those before it are ids, and it is none
+pub record IsBadLine (bytes : List ℕ) (number : ℕ) : Type 0 where
+  pub before : List PageId
+  pub line : List ℕ
+  pub behind : List ℕ
+  pub typed : AreIds before
+  pub text : ended bytes ≡ dump_text before ++ (line ++ 10 ∷ behind)
+  pub place : length before + 1 ≡ number
+  pub few : length before < MOST_IDS
+  pub whole : AllByRecursion (λ b. (b == 10) ≡ false) line
+  pub bad : IsNoId line
+
+-- this is the first line that is too many: as many ids as may be stand before it
+pub record IsTooMany (bytes : List ℕ) (number : ℕ) : Type 0 where
+  pub before : List PageId
+  pub behind : List ℕ
+  pub typed : AreIds before
+  pub text : ended bytes ≡ dump_text before ++ behind
+  pub more : behind ≢ []
+  pub place : length before + 1 ≡ number
+  pub full : length before ≡ MOST_IDS
+
+-- the bytes are refused so
+abbrev pub IsRefused : List ℕ → DumpErr → Type 0
+IsRefused bytes (BadLine line) = IsBadLine bytes line
+IsRefused bytes (TooMany line) = IsTooMany bytes line
+IsRefused bytes OutOfMemory = ⊥

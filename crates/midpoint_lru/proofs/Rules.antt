@@ -1,0 +1,60 @@
+-- An `Lru` behind a rule, as a view.
+use Rattle.std.proofs.Common.{◌≡◌, ◌∙◌, ◌≤◌, ◌==◌, ℕ, Bool, false, cond, List, ◌∷◌, length, set, Option, Some, sym, ap, subst, unwrap_or}
+use Rattle.std.specs.Prelude.{remove, slice_get, slice_set}
+use Rattle.std.specs.Option.{option_map_or}
+use Rattle.page_ids.specs.Midpoint.{Listed, Order, place_of, touch, touched, moves, becomes_young, relocate}
+use Rattle.midpoint_lru.specs.declared.lru.Lru.TheInside.{Inside}
+use Rattle.midpoint_lru.specs.View.{View, Has}
+use Rattle.midpoint_lru.specs.Parts.{Parts, IsIn}
+use Rattle.midpoint_lru.specs.Inside.{view_of, IsKept, AreFrames}
+
+module _ (a : Inside) (v : View) (is : view_of a ≡ v) where
+  pub frames_of : IsKept a → AreFrames v
+  frames_of kept = subst AreFrames is kept.frames
+
+  pub few_of : IsKept a → length v.order.listed ≤ v.room
+  few_of kept = subst (λ (w : View). length w.order.listed ≤ w.room) is kept.few
+
+  pub is_in : (f : ℕ) → Has v f → IsIn a.parts f
+  is_in f h = subst (λ (w : View). Has w f) (sym is) h
+
+  pub room_is : v.room ≡ a.parts.room
+  room_is = ap (λ (w : View). w.room) (sym is)
+
+  pub evicts_is : a.evicts ≡ v.order.evicts
+  evicts_is = ap (λ (w : View). w.order.evicts) is
+
+  -- the view with another list
+  pub seen : (parts : Parts) (evicts : ℕ) (o : Order ℕ) → parts.listed ≡ o.listed → evicts ≡ o.evicts → parts.room ≡ a.parts.room
+      → ◌≡◌ {A = View} (record { numbers = record { pct = a.pct; time = a.time; min = a.min }; order = record { listed = parts.listed; evicts = evicts }; room = parts.room })
+      (record v { order = o })
+  seen parts evicts o listed counted room =
+      let view = λ (w : View) (xs : List (Listed ℕ)) (n r : ℕ). let u : View = record { numbers = w.numbers; order = record { listed = xs; evicts = n }; room = r } in u in
+      ap (view (view_of a) parts.listed evicts) room
+      ∙ ap (λ (w : View). view w parts.listed evicts w.room) is
+      ∙ ap (λ xs. view v xs evicts v.room) listed
+      ∙ ap (λ n. view v o.listed n v.room) counted
+
+-- what a touch comes to, where the one at the frame's place is known
+module _ (v : View) (f now : ℕ) (x : Listed ℕ) (found : slice_get v.order.listed (place_of ◌==◌ f v.order.listed) ≡ Some x)
+    (b : Bool) (test : b ≡ moves v.numbers now v.order (place_of ◌==◌ f v.order.listed) x) where
+  pub young_is : becomes_young ◌==◌ v.numbers f now v.order ≡ b
+  young_is = ap (λ z. option_map_or (λ y. moves v.numbers now v.order (place_of ◌==◌ f v.order.listed) y) z false) found ∙ sym test
+
+  pub touched_is : (touch ◌==◌ v.numbers f now v.order).listed
+      ≡ cond b (record { key = x.key; first = Some (unwrap_or x.first now); since = v.order.evicts } ∷ remove v.order.listed (place_of ◌==◌ f v.order.listed))
+      (set v.order.listed (place_of ◌==◌ f v.order.listed) (record { key = x.key; first = Some (unwrap_or x.first now); since = x.since }))
+  touched_is =
+      let xs = v.order.listed in
+      let i = place_of ◌==◌ f xs in
+      ap (λ z. option_map_or (λ y. touched v.numbers now v.order i y) z xs) found
+      ∙ ap (λ t. cond t (record { key = x.key; first = Some (unwrap_or x.first now); since = v.order.evicts } ∷ remove xs i)
+      (set xs i (record { key = x.key; first = Some (unwrap_or x.first now); since = x.since }))) (sym test)
+
+-- what a relocation comes to
+pub relocated_is : (v : View) (old new : ℕ) (x : Listed ℕ) → slice_get v.order.listed (place_of ◌==◌ old v.order.listed) ≡ Some x
+    → (relocate ◌==◌ old new v.order).listed ≡ slice_set v.order.listed (place_of ◌==◌ old v.order.listed) (record { key = new; first = x.first; since = x.since })
+relocated_is v old new x found =
+    let xs = v.order.listed in
+    let i = place_of ◌==◌ old xs in
+    ap (λ z. option_map_or (λ (x : Listed ℕ). slice_set xs i (record { key = new; first = x.first; since = x.since })) z xs) found

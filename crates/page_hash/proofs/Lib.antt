@@ -1,0 +1,4 @@
+pub mod Times
+pub mod Filed
+pub mod Homes
+pub mod Follow

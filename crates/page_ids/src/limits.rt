@@ -1,0 +1,31 @@
+//! Numbers that several rules share.
+
+/// The most fixes that a pass may hold in an instance.
+pub const MOST_FIXES: u32 = 64;
+
+/// The most watches that may stand in an instance.
+pub const MOST_WATCHES: u32 = 33;
+
+/// The bytes that a log record has beside those of its change.
+pub const RECORD_BYTES: u64 = 21;
+
+/// The last place that the closing flush may take: 2^48 - 1. A place is a modify clock, which has 48 bits of a frame's word.
+pub const LAST_PLACE: u64 = 281_474_976_710_655;
+
+/// The last place that any other call may take: 2^48 - 32769. The closing flush of 16,384 pages fits behind it, and so does the end of a resize that is given up.
+pub const LIMIT: u64 = 281_474_976_677_887;
+
+/// The log's last end: 2^63.
+pub const LAST_LSN: u64 = 9_223_372_036_854_775_808;
+
+/// The places that a fix needs: a write, an evict, a load and its answer.
+pub const FIX_NEED: u64 = 4;
+
+/// The places that a create needs: a write, an evict and its answer.
+pub const CREATE_NEED: u64 = 3;
+
+/// The places that a call needs which leaves its answer alone.
+pub const ANSWER_NEED: u64 = 1;
+
+/// The places that a resize to more chunks needs.
+pub const GROWTH_NEED: u64 = 2;

@@ -1,0 +1,4 @@
+pub mod Fixes
+pub mod Lists
+pub mod Tells
+pub mod Used

@@ -1,0 +1,110 @@
+-- What single laws come to where more is known: lemmas about the definitions, which crates above may cite.
+use Rattle.std.proofs.Common.{◌≡◌, ◌<◌, ◌≤◌, ℕ, Bool, true, false, cond, List, [], ◌∷◌, ◌+◌, ◌&&◌, Option, None, Some, refl, ap, ◌∙◌, sym, eq-eqb, nat_eq, nat_le, IfSome, arith}
+use Rattle.std.proofs.lemmas.Bool.Decides.{nat_tests}
+use Rattle.std.specs.Prelude.{⊤}
+use Rattle.std.specs.List.{AllByRecursion}
+use Rattle.std.specs.Option.{option_map_or}
+use Rattle.page_ids.specs.declared.ids.PageId.{PageId}
+use Rattle.trail.specs.declared.event.Entry.{Entry}
+use Rattle.trail.specs.declared.event.Event.{Event}
+use Rattle.trail.specs.declared.event.Event.TheVariants as event
+use Rattle.trail.specs.Trails.{Opening, entries, most}
+use Rattle.trail.specs.Kinds.{Refusing, refusal_in}
+use Rattle.trail.specs.Book.{Book, Hand, frame_in_turn, next_frame}
+use Rattle.trail.specs.Spaces.{IsInside, IsOutside, page_shown, pages_in_cause, pages_told_by, shown_pages, sought_page, told_pages}
+use Rattle.trail.specs.Promises.{ArePromised, IsOfSpaces}
+
+-- How many pages a space has, as a history whose entries tell it right shows it.
+pub record IsSpaceOf (pages : ℕ → ℕ) (h : List Entry) (s : ℕ) : Type 0 where
+  pub told : IfSome (told_pages h s) (λ n. n ≡ pages s)
+  pub shown : shown_pages h s ≤ pages s
+
+number_is : (m n : ℕ) → nat_eq m n ≡ true → m ≡ n
+number_is m n h = grind (arith, nat_tests)
+
+told_by : (pages : ℕ → ℕ) (s : ℕ) (sought : Option PageId) (cause : Option ℕ) (past : Option ℕ) → IfSome sought (λ p. IfSome cause (λ n. n ≡ pages p.space)) → IfSome past (λ n. n ≡ pages s)
+    → IfSome (option_map_or (λ (p : PageId). cond (nat_eq p.space s) (option_map_or (λ n. Some n) cause past) past) sought past) (λ n. n ≡ pages s)
+told_by pages s None cause past is was = was
+told_by pages s (Some p) None past is was = cases (nat_eq p.space s)
+  where
+    cases : (b : Bool) → IfSome (cond b past past) (λ n. n ≡ pages s)
+    cases true = was
+    cases false = was
+told_by pages s (Some p) (Some n) past is was = cases (nat_eq p.space s) refl
+  where
+    cases : (b : Bool) → nat_eq p.space s ≡ b → IfSome (cond b (Some n) past) (λ n. n ≡ pages s)
+    cases true t = is ∙ ap pages (number_is p.space s t)
+    cases false t = was
+
+told_after : (pages : ℕ → ℕ) (s : ℕ) (refusal : Option Refusing) (past : Option ℕ) → IfSome refusal (λ r. IfSome (sought_page r.call) (λ p. IfSome (pages_in_cause r.cause) (λ n. n ≡ pages p.space)))
+    → IfSome past (λ n. n ≡ pages s) → IfSome (option_map_or (λ r. pages_told_by s r past) refusal past) (λ n. n ≡ pages s)
+told_after pages s None past is was = was
+told_after pages s (Some r) past is was = told_by pages s (sought_page r.call) (pages_in_cause r.cause) past is was
+
+most_below : (m n k : ℕ) → m ≤ k → n ≤ k → most m n ≤ k
+most_below m n k first next = cases (nat_le m n)
+  where
+    cases : (b : Bool) → cond b n m ≤ k
+    cases true = next
+    cases false = first
+
+shown_after : (pages : ℕ → ℕ) (s : ℕ) (page : Option PageId) (past : ℕ) → IfSome page (λ p. p.page < pages p.space) → past ≤ pages s
+    → option_map_or (λ (p : PageId). cond (nat_eq p.space s) (most (p.page + 1) past) past) page past ≤ pages s
+shown_after pages s None past is was = was
+shown_after pages s (Some p) past is was = cases (nat_eq p.space s) refl
+  where
+    cases : (b : Bool) → nat_eq p.space s ≡ b → cond b (most (p.page + 1) past) past ≤ pages s
+    cases true t = let same : pages p.space ≡ pages s = ap pages (number_is p.space s t) in most_below (p.page + 1) past (pages s) (omega (arith, is, same)) was
+    cases false t = was
+
+pub spaces_of : (o : Opening) (pages : ℕ → ℕ) (past : List Event) → ArePromised o pages past → (s : ℕ) → IsSpaceOf pages (entries past) s
+spaces_of o pages [] promised s = record { told = tt; shown = omega arith }
+spaces_of o pages (event.Entry e ∷ past) promised s =
+    let was = spaces_of o pages past promised.1 s in
+    let of : IsOfSpaces pages e.kind = promised.0.0 in
+    record {
+      told = told_after pages s (refusal_in e.kind) (told_pages (entries past) s) of.told was.told;
+      shown = shown_after pages s (page_shown e.kind) (shown_pages (entries past) s) of.inside was.shown;
+    }
+spaces_of o pages (event.Receipt r ∷ past) promised s = spaces_of o pages past promised.1 s
+
+is_inside : (pages told page : ℕ) → told ≡ pages → page < pages → page < told
+is_inside pages told page same less = omega (arith, same, less)
+
+-- a page of the space, and one that isn't there
+pub inside_of : (pages : ℕ → ℕ) (h : List Entry) (p : PageId) → IsSpaceOf pages h p.space → p.page < pages p.space → IsInside h p
+inside_of pages h p of less = go (told_pages h p.space) of.told
+  where
+    go : (o : Option ℕ) → IfSome o (λ n. n ≡ pages p.space) → IfSome o (λ n. p.page < n)
+    go None is = tt
+    go (Some n) is = is_inside (pages p.space) n p.page is less
+
+pub outside_of : (pages : ℕ → ℕ) (h : List Entry) (p : PageId) (n : ℕ) → IsSpaceOf pages h p.space → n ≡ pages p.space → n ≤ p.page → IsOutside h p n
+outside_of pages h p n of is past = record {
+  behind = past;
+  same = go (told_pages h p.space) of.told;
+  shown = omega (arith, of.shown, is);
+}
+  where
+    go : (o : Option ℕ) → IfSome o (λ m. m ≡ pages p.space) → IfSome o (λ m. m ≡ n)
+    go None was = tt
+    go (Some m) was = was ∙ sym is
+
+-- a fact of every number holds of each of some
+pub of_all : {A : Type 0} (P : A → Type 0) (xs : List A) → ((x : A) → P x) → AllByRecursion P xs
+of_all P [] each = tt
+of_all P (x ∷ xs) each = (each x, of_all P xs each)
+
+-- where no frame is in hand, any call takes the front of the free list
+pub turn_of_all : (b : Book) (c n : ℕ) → b.hand ≡ None → next_frame b c n ≡ frame_in_turn b
+turn_of_all b c n none = go b.hand none
+  where
+    go : (o : Option Hand) → o ≡ None → next_frame (record b { hand = o }) c n ≡ frame_in_turn (record b { hand = o })
+    go None is = refl
+    go (Some x) is = absurd (cc)
+
+-- a frame in hand is taken by its own call
+pub turn_of_own : (b : Book) (c n f : ℕ) → b.hand ≡ Some (record { frame = f; caller = c; number = n }) → next_frame b c n ≡ Some f
+turn_of_own b c n f is =
+    ap (λ (o : Option Hand). next_frame (record b { hand = o }) c n) is
+    ∙ ap (λ (t : Bool). cond t (Some f) (frame_in_turn (record b { hand = None }))) (ap (λ (t : Bool). t && nat_eq n n) (eq-eqb c c refl) ∙ eq-eqb n n refl)

@@ -1,0 +1,63 @@
+-- How many pages a space has, as far as a history shows it. The newest entry stands first.
+use Rattle.std.specs.Prelude.{ℕ, List, [], ◌∷◌, ◌≡◌, ◌==◌, ◌+◌, ◌<◌, ◌≤◌, Option, None, Some, IfSome, if◌then◌else◌}
+use Rattle.std.specs.Option.{option_map_or}
+use Rattle.page_ids.specs.declared.ids.PageId.{PageId}
+use Rattle.trail.specs.declared.event.Call.{Call}
+use Rattle.trail.specs.declared.event.Call.TheVariants as call
+use Rattle.trail.specs.declared.event.Cause.{Cause}
+use Rattle.trail.specs.declared.event.Cause.TheVariants as cause
+use Rattle.trail.specs.declared.event.Kind.{Kind}
+use Rattle.trail.specs.declared.event.Kind.TheVariants as kind
+use Rattle.trail.specs.declared.event.Entry.{Entry}
+use Rattle.trail.specs.Trails.{most}
+use Rattle.trail.specs.Kinds.{Refusing, refusal_in}
+
+-- the page that a call asks the disk for
+abbrev pub sought_page : Call → Option PageId
+sought_page (call.Fix p now) = Some p
+sought_page (call.Create p now) = Some p
+sought_page (call.Watch p) = Some p
+sought_page _ = None
+
+-- the page that an answer of such a call shows to be in its space
+abbrev pub page_shown_by : Call → Cause → Option PageId
+page_shown_by asked (cause.PlacesSpent mark need) = None
+page_shown_by asked (cause.NoSuchPage pages) = None
+page_shown_by asked why = sought_page asked
+
+abbrev pub page_shown : Kind → Option PageId
+page_shown (kind.Fix p f clock now) = Some p
+page_shown (kind.Create p f start end now) = Some p
+page_shown (kind.WatchSet p) = Some p
+page_shown (kind.WatchAt p f) = Some p
+page_shown (kind.Refused asked why) = page_shown_by asked why
+page_shown _ = None
+
+-- one more than the greatest page of the space that an answer shows
+abbrev pub shown_pages : List Entry → ℕ → ℕ
+shown_pages [] s = 0
+shown_pages (e ∷ h) s = option_map_or (λ (p : PageId). if p.space == s then most (p.page + 1) (shown_pages h s) else shown_pages h s) (page_shown e.kind) (shown_pages h s)
+
+-- the number of pages that a refusal tells
+abbrev pub pages_in_cause : Cause → Option ℕ
+pages_in_cause (cause.NoSuchPage pages) = Some pages
+pages_in_cause _ = None
+
+-- the number of the space that a refusal tells
+abbrev pub pages_told_by : ℕ → Refusing → Option ℕ → Option ℕ
+pages_told_by s r before = option_map_or (λ (p : PageId). if p.space == s then option_map_or (λ pages. Some pages) (pages_in_cause r.cause) before else before) (sought_page r.call) before
+
+-- the number of pages that a refusal told of the space
+abbrev pub told_pages : List Entry → ℕ → Option ℕ
+told_pages [] s = None
+told_pages (e ∷ h) s = option_map_or (λ r. pages_told_by s r (told_pages h s)) (refusal_in e.kind) (told_pages h s)
+
+-- no refusal told so few pages that this one isn't there
+abbrev pub IsInside : List Entry → PageId → Type 0
+IsInside h p = IfSome (told_pages h p.space) (λ pages. p.page < pages)
+
+-- the space has so many pages, and this one isn't there
+pub record IsOutside (h : List Entry) (p : PageId) (pages : ℕ) : Type 0 where
+  pub behind : pages ≤ p.page
+  pub same : IfSome (told_pages h p.space) (λ told. told ≡ pages)
+  pub shown : shown_pages h p.space ≤ pages

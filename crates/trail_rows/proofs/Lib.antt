@@ -1,0 +1,11 @@
+pub mod Shared
+pub mod Order
+pub mod Whole
+pub mod Calls
+pub mod Pages
+pub mod Frames
+pub mod Resizes
+pub mod Causes
+pub mod Places
+pub mod Words
+pub mod Promises
