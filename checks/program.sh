@@ -84,7 +84,7 @@ expect() {
     [ "$status" = "$2" ] || faults+=" status $status, not $2;"
     cmp -s out want_out || faults+=" standard output differs;"
     cmp -s err want_err || faults+=" standard error differs;"
-    diff -r want case >/dev/null 2>&1 || faults+=" the files differ;"
+    diff -r --no-dereference want case >/dev/null 2>&1 || faults+=" the files differ;"
     if [ -z "$faults" ]; then
         passed=$((passed + 1))
         return
@@ -128,6 +128,20 @@ usage() {
     shift
     run_words '' "$@"
     expect "$name" 2 '' $'innopool: usage\n'
+}
+
+# checked NAME SCRIPT STATUS OUT ERR: what `check` makes of a script. It opens no file.
+checked() {
+    run_words "$2" check
+    expect "$1" "$3" "$4" "$5"
+}
+
+# need TOOL: a tool that is missing fails the checks.
+need() {
+    command -v "$1" >/dev/null && return
+    failed=$((failed + 1))
+    printf 'FAILED: there is no %s\n' "$1"
+    return 1
 }
 
 # device_fault NAME FILE LOG: the tablespace or the log can't be opened there.
@@ -696,6 +710,52 @@ long_scripts() {
     expect 'a script from a pipe that is too long' 3 '' $'innopool: bad line 0\n'
 }
 
+# The settings with their values where a script sets none.
+usual=$'page 16384\ninstances 1\nframes 8192\nsize 134217728\nmax 2\nold_pct 37\nold_time 1000\nold_min 512\nlsn 8192\nfirst 0\n'
+
+# What `check` prints, and what it refuses. FILE and LOG are not among its words, and no file is made.
+printed_scripts() {
+    blank_space
+    checked 'a script is printed with all settings' $'thread 1\nunfix 0:1' 0 "$usual"$'thread 1\nunfix 0:1\n' ''
+    checked 'the empty script' '' 0 "$usual" ''
+    checked 'comments and empty lines are dropped' $'# \xff\n\nthread 1\n#\n' 0 "$usual"$'thread 1\n' ''
+    checked 'settings in the order of the table, with their values' $'first 0\nlsn 9\nold_min 4\nold_time 0\nold_pct 5\nmax 3\nsize 16384\nframes 4\npage 4096\n' 0 \
+$'page 4096\ninstances 1\nframes 4\nsize 16384\nmax 3\nold_pct 5\nold_time 0\nold_min 4\nlsn 9\nfirst 0\n' ''
+    checked 'nothing is run' "$thread"$'create 0:0 1\nput 0:0 38 00ff\nread 0:0 38 2\nclean 1\ncheckpoint\nfix 0:0 18446744073709551615\n' 0 \
+$'page 4096\ninstances 1\nframes 4\nsize 16384\nmax 2\nold_pct 37\nold_time 1000\nold_min 512\nlsn 8192\nfirst 0
+thread 1
+create 0:0 1
+put 0:0 38 00ff
+read 0:0 38 2
+clean 1
+checkpoint
+fix 0:0 18446744073709551615
+' ''
+    checked 'another thread than the first' $'thread 2\n' 3 '' $'innopool: bad line 1\n'
+    checked 'of a bad script nothing is printed' "$thread"$'unfix 0:1\nunfix\n' 3 '' $'innopool: bad line 7\n'
+    checked 'a fault of the whole' $'frames 8192\nmax 3\n' 3 '' $'innopool: bad line 0\n'
+    checked 'several instances, which are not built yet' $'instances 2\n' 3 '' $'innopool: bad line 0\n'
+    checked 'a script that is too long' "$(comments 1048577)" 3 '' $'innopool: bad line 0\n'
+    usage 'check with a word' check 0
+    usage 'check with an empty word' check ''
+    (cd case && exec "$program" check <. >../out 2>../err)
+    status=$?
+    expect 'check of a folder' 4 '' $'innopool: read fault\n'
+    (cd case && exec "$program" check <&- >../out 2>../err)
+    status=$?
+    expect 'check of a closed standard input' 0 "$usual" ''
+    (cd case && exec "$program" check </dev/null >/dev/full 2>../err)
+    status=$?
+    : >out
+    expect 'check on a full standard output' 5 '' $'innopool: write fault\n'
+    for script in "$top"/examples/*.pool; do
+        (cd case && exec "$program" check <"$script" >../printed 2>../err)
+        (cd case && exec "$program" check <../printed >../out 2>../err)
+        status=$?
+        expect "the printed form of $(basename "$script") is its own" 0 "$(cat printed)"$'\n' ''
+    done
+}
+
 words() {
     blank_space
     usage 'no words'
@@ -714,6 +774,12 @@ words() {
     usage 'a file name that begins with a dash' run 0 -space log
     usage 'a log name that begins with a dash' run 0 space -log
     usage 'help' --help
+    usage 'the command help' help
+    usage 'a part of a command' ru 0 space log
+    usage 'a word that begins with a dash, before the command' -x run 0 space log
+    usage 'two dashes, which end the options elsewhere' run -- 0 space log
+    usage 'two dashes behind the command' run 0 space log --
+    usage 'version' run --version space log
     usage 'a word that is no UTF-8' run 0 $'space\xff' log
 }
 
@@ -776,6 +842,134 @@ E 3 0.1 clean 0 -
 # is_open PID: the program has opened the tablespace.
 is_open() {
     [ -n "$(find "/proc/$1/fd" -lname "$work/case/space" 2>/dev/null)" ]
+}
+
+# one_file NAME FILE LOG: both words name one file, and no byte of it is written.
+one_file() {
+    run_words "$thread"$'fix 0:0 1\nput 0:0 38 01\n' run 0 "$2" "$3"
+    expect "$1" 6 '' $'innopool: device fault\n'
+}
+
+# Files that may be neither tablespace nor log, and files that another run has.
+opened_files() {
+    local pid device
+    blank_space
+    ln case/space case/hard
+    ln -s space case/soft
+    one_file 'one file by one name' space space
+    one_file 'one file by another path' space ../case/space
+    one_file 'one file by a hard link' space hard
+    one_file 'one file by a symbolic link' soft space
+    blank_space
+    ln -s nothing case/log
+    device_fault 'a log that is a link to nothing' space log
+    blank_space
+    mkfifo pipe
+    device_fault 'a pipe as the tablespace' ../pipe log
+    device_fault 'a device of characters as the tablespace' /dev/zero log
+
+    blank_files
+    printf %s "$thread"$'fix 0:1 1\nfix 0:0 2\n' >script
+    mkfifo held
+    # the first run has FILE, and waits for a reader of its log
+    (cd case && exec "$program" run 0 space ../held <../script >../first_out 2>../first_err) &
+    pid=$!
+    for _ in $(seq 100); do
+        sleep 0.1
+        is_open "$pid" && break
+    done
+    sleep 0.2
+    run "$thread"
+    expect 'a tablespace that another run has' 6 '' $'innopool: device fault\n'
+    cat held >/dev/null &
+    wait "$pid"
+    status=$?
+    wait
+    cp first_out out
+    cp first_err err
+    expect 'the run that has it goes on' 0 \
+$'trail 0 5 2
+E 1 1.1 load 0:1 0
+E 2 1.1 fix 0:1 0 1 1
+E 3 1.2 load 0:0 1
+E 4 1.2 fix 0:0 1 3 2
+R 4 1.3 unfixed 0:0 1 2
+R 4 1.4 unfixed 0:1 0 1
+E 5 0.1 clean 0 -
+' ''
+    need flock && {
+        flock case/log sh -c "cd case && exec \"\$0\" run 0 space log <../script >../out 2>../err" "$program"
+        status=$?
+        expect 'a log that another run has' 6 '' $'innopool: device fault\n'
+    }
+    trail_is 'and when it is free again' '' 0 "$empty_trail"
+
+    blank_space
+    device=
+    need losetup && device=$(losetup --find --show case/space 2>/dev/null)
+    if [ -z "$device" ]; then
+        echo 'skipped: no loop device is to be had here'
+    else
+        run_words "$thread"$'fix 0:64 1\nfix 0:63 2\n' run 0 "$device" log
+        : >want/log
+        expect 'a block device has its real size' 1 \
+$'trail 0 4 1
+E 1 1.1 refused fix 0:64 1 NoSuchPage 64
+E 2 1.2 load 0:63 0
+E 3 1.2 fix 0:63 0 2 2
+R 3 1.3 unfixed 0:63 0 2
+E 4 0.1 clean 0 -
+' ''
+        blank_space
+        device_fault 'a block device as the log' space "$device"
+        losetup --detach "$device"
+    fi
+}
+
+# traced SCRIPT OPTION..: runs the script under strace with these options; what it saw is in the file calls.
+traced() {
+    local script=$1
+    shift
+    begin
+    printf %s "$script" >script
+    (cd case && exec strace -f -o ../calls "$@" "$program" run 0 space log <../script >../out 2>../err)
+    status=$?
+}
+
+# Calls of the system that come back early, and calls that have to be made.
+system_calls() {
+    local read=$thread$'fix 0:0 1\n' seen
+    need strace || return
+    if ! strace -o calls true 2>/dev/null; then
+        echo 'skipped: strace may not trace here'
+        return
+    fi
+    blank_files
+    traced "$read" -P "$work/script" -e trace=read -e inject=read:error=EINTR:when=1..3
+    expect 'a read of the script that is interrupted' 0 \
+$'trail 0 3 1
+E 1 1.1 load 0:0 0
+E 2 1.1 fix 0:0 0 1 1
+R 2 1.2 unfixed 0:0 0 1
+E 3 0.1 clean 0 -
+' ''
+    traced '' -P "$work/out" -e trace=write -e inject=write:error=EINTR:when=1..3
+    expect 'a write of the trail that is interrupted' 0 "$empty_trail" ''
+    traced '' -P "$work/script" -e trace=read -e inject=read:error=EIO:when=1
+    expect 'a read of the script that fails' 4 '' $'innopool: read fault\n'
+    blank_space
+    traced '' -y -e trace=fsync
+    : >want/log
+    expect 'a log is made' 0 "$empty_trail" ''
+    seen=$(grep -c "fsync([0-9]*<$work/case>) *= 0" calls)
+    [ "$seen" = 1 ] && passed=$((passed + 1)) || { failed=$((failed + 1)); echo 'FAILED: the folder of a log that is made is not synced'; }
+    traced '' -y -e trace=fsync
+    seen=$(grep -c "fsync([0-9]*<$work/case>)" calls)
+    [ "$seen" = 0 ] && passed=$((passed + 1)) || { failed=$((failed + 1)); echo 'FAILED: the folder of a log that is there is synced'; }
+    rm case/log
+    traced '' -e trace=fsync -e inject=fsync:error=EIO:when=1
+    : >want/log
+    expect 'the folder of a log that is made fails' 6 '' $'innopool: device fault\n'
 }
 
 # Devices that fail once they are open.
@@ -845,6 +1039,10 @@ streams() {
         (cd case && exec "$program" run 0 space log >../out 2>../err)
     status=$?
     expect 'a script in pieces from a pipe' 0 "$empty_trail" ''
+    # the reader leaves after the first line of a long trail
+    (unfixes 65536 | (cd case && "$program" run 0 space log 2>../err; echo $? >../left) | head -n 1 >out)
+    status=$(cat left)
+    expect 'a reader that leaves' 5 $'trail 0 1 65536\n' $'innopool: write fault\n'
 }
 
 examples
@@ -859,9 +1057,12 @@ bad_lines
 many_calls
 long_scripts
 words
+printed_scripts
 files
+opened_files
 faults
 streams
+system_calls
 
 echo "$passed passed, $failed failed"
 [ "$failed" = 0 ]

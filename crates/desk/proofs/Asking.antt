@@ -1,5 +1,5 @@
 -- A call that takes a frame for a page, and its refusals.
-use Rattle.std.proofs.Common.{◌≡◌, ◌<◌, ℕ, List, [], IfSome, length, refl, ap, ◌∙◌, sym, subst}
+use Rattle.std.proofs.Common.{◌≡◌, ◌<◌, ℕ, List, [], IfSome, length, ap, ◌∙◌, sym, subst}
 use Rattle.page_ids.specs.Chunks.{instance_of}
 use Rattle.page_ids.specs.declared.ids.PageId.{PageId}
 use Rattle.page_ids.specs.declared.frame_word.Word.{Word}
@@ -19,8 +19,6 @@ use Rattle.desk.specs.Steps.{next_entry}
 use Rattle.desk.specs.Tied.{AreTied, HasTurn, IsOwn}
 use Rattle.desk.specs.Victims.{AsksFor, IsUnforced}
 use Rattle.desk.specs.declared.calls.Caller.{Caller}
-use Rattle.desk.specs.declared.calls.FrameErr.{FrameErr}
-use Rattle.desk.specs.declared.calls.FrameErr.TheVariants as unhad
 use Rattle.desk.specs.declared.flush.WriteErr.{WriteErr}
 use Rattle.desk.specs.declared.flush.WriteErr.TheVariants as unwritten
 use Rattle.desk.proofs.Claims.{history_of, may_append, published_tied}
@@ -62,13 +60,6 @@ module _ {D : Type 0} (seen : D → DiskSeen) where
 -- no word is said
 pub no_words : (s : FramesSeen) (asked : Call) (why : Cause) → cause_words asked why ≡ [] → IfSome s.found (λ found. AreFound found (cause_words asked why))
 no_words s asked why none = each_some s.found (λ found. AreFound found (cause_words asked why)) (λ found is. subst (λ (l : List (ℕ × Word)). AreFound found l) (sym none) tt)
-
--- the log as it was
-pub unforced_same : {L : Type 0} (x : L) (e : FrameErr) → IsUnforced x x e
-unforced_same x unhad.OutOfMemory = refl
-unforced_same x (unhad.AllFixed seen) = refl
-unforced_same x (unhad.RedoFault before after) = tt
-unforced_same x (unhad.DiskFault before after) = tt
 
 -- a device was used
 pub unforced_fault : {L : Type 0} (x y : L) (e : WriteErr) → IsUnforced x y (refusal_of e)

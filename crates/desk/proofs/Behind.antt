@@ -19,14 +19,15 @@ use Rattle.trail.specs.Saved.{is_written, saved}
 use Rattle.frame_words.specs.Seen.{FramesSeen, row_at}
 use Rattle.desk.specs.Base.{Opened, IsGiven}
 use Rattle.desk.specs.Behind.{IsBehind, IsOpening, IsValueIn}
-use Rattle.desk.specs.Ledger.{IsVacant}
+use Rattle.instance_lists.specs.Ledger.{IsVacant}
 use Rattle.desk.specs.State.{State}
 use Rattle.desk.specs.Steps.{IsAppended, next_entry}
 use Rattle.desk.specs.declared.calls.FixErr.{FixErr}
 use Rattle.desk.specs.declared.calls.Caller.{Caller}
-use Rattle.desk.proofs.Dirt.{no_way, same_is}
+use Rattle.trail.proofs.DirtyPages.{clean_saved, first_saved}
+use Rattle.instance_lists.proofs.Dirt.{no_way, same_is}
 use Rattle.desk.proofs.Keeping.{entry_of}
-use Rattle.desk.proofs.BehindParts.{IsStill, clean_saved, unwritten_saved, given_content, given_none, IsClean, stands}
+use Rattle.desk.proofs.BehindParts.{IsStill, given_content, given_none, IsClean, stands}
 
 -- a desk of these parts
 abbrev pub made : {D : Type 0} → Config → ℕ → List Entry → D → State D
@@ -69,7 +70,7 @@ module _ {D : Type 0} (seen : D → DiskSeen) (o : Opened) where
         unwritten = b.unwritten p;
         valued = b.valued p;
         same = clean_saved o.size o.base desk.history p clean;
-        first_is = unwritten_saved o.size o.base desk.history p;
+        first_is = first_saved o.size o.base desk.history p;
       }
 
   -- a clean page's value is what its bytes on the disk are a page of

@@ -19,7 +19,7 @@ use Rattle.trail.specs.History.{value, value_after, home_after}
 use Rattle.trail.specs.Dirt.{dirtied, cleaned, dirty, dirty_after, dirt_of, is_dirty, log_end_after}
 use Rattle.trail.specs.Saved.{is_written, written_after, saved, saved_after}
 use Rattle.desk.specs.Base.{IsGiven}
-use Rattle.desk.proofs.Dirt.{no_way, dirtied_is, dirtied_other, cleaned_of}
+use Rattle.instance_lists.proofs.Dirt.{no_way, dirtied_is, dirtied_other, cleaned_of}
 
 -- what an entry leaves that neither loads, changes, writes nor moves a page
 pub record IsStill (k : Kind) : Type 0 where
@@ -46,78 +46,6 @@ dirty_other q p start end ds other = ap (is_some {T = Dirty}) (dirtied_other ds 
 -- a write leaves every other page
 pub clean_other : (q p : PageId) (ds : List Dirty) → same_page q p ≡ false → is_some (dirt_of (cleaned q ds) p) ≡ is_some (dirt_of ds p)
 clean_other q p ds other = ap (is_some {T = Dirty}) (cleaned_of ds q p ∙ ap (λ (b : Bool). cond b None (dirt_of ds p)) other)
-
--- one step: a page that is clean behind it has its value on the disk
-saved_step : (size : ℕ) (k : Kind) (p : PageId) (ds : List Dirty) (v s : Option Content) → is_some (dirt_of (dirty_after k ds) p) ≡ false
-    → (is_some (dirt_of ds p) ≡ false → s ≡ v) → saved_after k p v s ≡ value_after size k p v
-saved_step size (kind.Load q f) p ds v s clean was = was clean
-saved_step size (kind.Fix q f clock now) p ds v s clean was = was clean
-saved_step size (kind.Create q f start end now) p ds v s clean was = go (same_page q p) refl
-  where
-    go : (b : Bool) → same_page q p ≡ b → s ≡ cond b (Some (record { lsn = end; bytes = replicate size 0 })) v
-    go true is = absurd (no_way (sym (dirty_here q p start end ds is) ∙ clean))
-    go false is = was (sym (dirty_other q p start end ds is) ∙ clean)
-saved_step size (kind.Put q at bytes start end) p ds v s clean was = go (same_page q p) refl
-  where
-    go : (b : Bool) → same_page q p ≡ b → s ≡ cond b (option_map (λ c. patched c at bytes end) v) v
-    go true is = absurd (no_way (sym (dirty_here q p start end ds is) ∙ clean))
-    go false is = was (sym (dirty_other q p start end ds is) ∙ clean)
-saved_step size (kind.Evict q f passed) p ds v s clean was = was clean
-saved_step size (kind.Write q lsn upto) p ds v s clean was = go (same_page q p) refl
-  where
-    go : (b : Bool) → same_page q p ≡ b → cond b v s ≡ v
-    go true is = refl
-    go false is = was (sym (clean_other q p ds is) ∙ clean)
-saved_step size (kind.Move q from to) p ds v s clean was = was clean
-saved_step size (kind.Withdraw from) p ds v s clean was = was clean
-saved_step size (kind.Undo from) p ds v s clean was = was clean
-saved_step size (kind.Shrink chunks) p ds v s clean was = was clean
-saved_step size (kind.Grow chunks) p ds v s clean was = was clean
-saved_step size (kind.Resize bytes chunks) p ds v s clean was = was clean
-saved_step size (kind.Clean written skipped) p ds v s clean was = was clean
-saved_step size (kind.Check lsn) p ds v s clean was = was clean
-saved_step size (kind.WatchSet q) p ds v s clean was = was clean
-saved_step size (kind.WatchAt q f) p ds v s clean was = was clean
-saved_step size (kind.Occurred q arrived) p ds v s clean was = was clean
-saved_step size (kind.Unwatch q) p ds v s clean was = was clean
-saved_step size (kind.Dump pct ids) p ds v s clean was = was clean
-saved_step size (kind.Refused asked why) p ds v s clean was = was clean
-
--- a clean page's value is what was last written of it
-pub clean_saved : (size : ℕ) (base : PageId → Option Content) (h : List Entry) (p : PageId) → is_dirty h p ≡ false → saved size base h p ≡ value size base h p
-clean_saved size base [] p clean = refl
-clean_saved size base (e ∷ h) p clean = saved_step size e.kind p (dirty h) (value size base h p) (saved size base h p) clean (clean_saved size base h p)
-
-unwritten_step : (k : Kind) (p : PageId) (w : Bool) (v s first : Option Content) → written_after k p w ≡ false → (w ≡ false → s ≡ first) → saved_after k p v s ≡ first
-unwritten_step (kind.Write q lsn upto) p w v s first is was = go (same_page q p) is
-  where
-    go : (b : Bool) → cond b true w ≡ false → cond b v s ≡ first
-    go true is = absurd (no_way is)
-    go false is = was is
-unwritten_step (kind.Load q f) p w v s first is was = was is
-unwritten_step (kind.Fix q f clock now) p w v s first is was = was is
-unwritten_step (kind.Create q f start end now) p w v s first is was = was is
-unwritten_step (kind.Put q at bytes start end) p w v s first is was = was is
-unwritten_step (kind.Evict q f passed) p w v s first is was = was is
-unwritten_step (kind.Move q from to) p w v s first is was = was is
-unwritten_step (kind.Withdraw from) p w v s first is was = was is
-unwritten_step (kind.Undo from) p w v s first is was = was is
-unwritten_step (kind.Shrink chunks) p w v s first is was = was is
-unwritten_step (kind.Grow chunks) p w v s first is was = was is
-unwritten_step (kind.Resize bytes chunks) p w v s first is was = was is
-unwritten_step (kind.Clean written skipped) p w v s first is was = was is
-unwritten_step (kind.Check lsn) p w v s first is was = was is
-unwritten_step (kind.WatchSet q) p w v s first is was = was is
-unwritten_step (kind.WatchAt q f) p w v s first is was = was is
-unwritten_step (kind.Occurred q arrived) p w v s first is was = was is
-unwritten_step (kind.Unwatch q) p w v s first is was = was is
-unwritten_step (kind.Dump pct ids) p w v s first is was = was is
-unwritten_step (kind.Refused asked why) p w v s first is was = was is
-
--- of a page that was never written the disk has what it gave
-pub unwritten_saved : (size : ℕ) (base : PageId → Option Content) (h : List Entry) (p : PageId) → is_written h p ≡ false → saved size base h p ≡ base p
-unwritten_saved size base [] p is = refl
-unwritten_saved size base (e ∷ h) p is = unwritten_step e.kind p (is_written h p) (value size base h p) (saved size base h p) (base p) is (unwritten_saved size base h p)
 
 -- two contents of the same bytes are one
 pub one_content : (bytes : List ℕ) (c d : Content) → IsContent bytes c → IsContent bytes d → c ≡ d

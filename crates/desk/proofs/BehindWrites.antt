@@ -25,7 +25,7 @@ use Rattle.desk.specs.Behind.{IsBehind, IsValueIn}
 use Rattle.desk.specs.State.{State}
 use Rattle.desk.specs.Steps.{next_entry}
 use Rattle.desk.specs.declared.calls.Caller.{Caller}
-use Rattle.desk.proofs.Dirt.{no_way, same_is, same_self, dirtied_is, dirtied_other, cleaned_of}
+use Rattle.instance_lists.proofs.Dirt.{no_way, same_is, same_self, dirtied_is, dirtied_other, cleaned_of}
 
 -- a page that was changed is dirty, and every other one is as it was
 soiled_here : (q p : PageId) (start end : ℕ) (ds : List Dirty) → same_page q p ≡ true → is_some (dirt_of (dirtied q start end ds) p) ≡ true

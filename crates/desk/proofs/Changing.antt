@@ -37,7 +37,7 @@ use Rattle.desk.specs.Tied.{AreTied, AreAlone, HasTurn, IsTied, OnTold}
 use Rattle.desk.specs.declared.calls.Caller.{Caller}
 use Rattle.desk.specs.declared.calls.PutDone.{PutDone}
 use Rattle.desk.proofs.BehindWrites.{settled, row_here, row_there, desk_of, settled_value, behind_rows, behind_disk, behind_answer, behind_put, behind_write, behind_failed, refused_answer, clean_answer}
-use Rattle.desk.proofs.Dirt.{no_way, same_is, same_self, dirtied_here, dirtied_other, cleaned_of}
+use Rattle.instance_lists.proofs.Dirt.{no_way, same_is, same_self, dirtied_here, dirtied_other, cleaned_of}
 use mathlib.Core.Logic.{dite}
 use native.Mathlib.Decide.{ℕ_discrete}
 

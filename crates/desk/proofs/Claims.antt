@@ -35,10 +35,11 @@ use Rattle.desk.specs.Steps.{IsAppended, next_entry}
 use Rattle.desk.specs.Tied.{AreTied, IsTied, OnTold, HasTurn}
 use Rattle.desk.specs.Victims.{IsSettled}
 use Rattle.desk.specs.declared.calls.Caller.{Caller}
-use Rattle.desk.proofs.Dirt.{no_way, same_is, same_self, cleaned_of}
+use Rattle.trail.proofs.DirtyPages.{newest_value}
+use Rattle.instance_lists.proofs.Dirt.{no_way, same_is, same_self, cleaned_of}
 use Rattle.desk.proofs.BehindParts.{refused_still}
 use Rattle.desk.proofs.PassedWords.{each_some, at_some}
-use Rattle.desk.proofs.Values.{desk_of, entry_at, value_in, newest_lsn, behind_frames, behind_parts, behind_quiet, behind_evict, behind_wrote, behind_unwritten}
+use Rattle.desk.proofs.Values.{desk_of, entry_at, value_in, behind_frames, behind_parts, behind_quiet, behind_evict, behind_wrote, behind_unwritten}
 
 pub some_is : {A : Type 0} (o : Option A) → IsSome o → (x : A) × (o ≡ Some x)
 some_is None is = absurd (no_way (sym is))
@@ -224,7 +225,7 @@ module _ {D : Type 0} (seen : D → DiskSeen) where
             content = c.0;
             is = c.1;
             sized = subst (λ (x : Option (Option Content)). IsSomeAnd x (λ told. IsSomeAnd told (λ c. length c.bytes ≡ page_bytes desk.config.page))) c.1 its.sized;
-            lsn = λ d there. newest_lsn (page_bytes desk.config.page) base.0 desk.history p c.0 d value_now there;
+            lsn = λ d there. newest_value (page_bytes desk.config.page) base.0 desk.history p d c.0 there value_now;
             value_is = λ o b.
                 let in_it = subst (λ (x : Option (Option Content)). IsValueIn o s x (value o.size o.base desk.history p)) is (b.values p f here) in
                 let bases : Some base.0 ≡ Some o.base = sym base.1 ∙ in_it.0 in

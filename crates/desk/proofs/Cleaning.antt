@@ -25,7 +25,7 @@ use Rattle.desk.specs.declared.calls.Caller.{Caller}
 use Rattle.desk.specs.declared.calls.CleanErr.TheVariants as unclean
 use Rattle.desk.specs.declared.flush.WriteErr.{WriteErr}
 use Rattle.desk.specs.declared.flush.WriteErr.TheVariants as unwritten
-use Rattle.desk.proofs.Dirt.{AreApart, dirty_apart, cleaned_front, same_self}
+use Rattle.instance_lists.proofs.Dirt.{AreApart, dirty_apart, cleaned_front, same_self}
 
 pub front_dirty : (h : List Entry) (d : Dirty) (rest : List Dirty) → dirty h ≡ d ∷ rest → is_dirty h d.page ≡ true
 front_dirty h d rest e = ap (λ (ds : List Dirty). is_some (dirt_of ds d.page)) e ∙ here

@@ -10,7 +10,7 @@ use Rattle.page_ids.specs.declared.config.Config.{Config}
 use Rattle.page_ids.specs.declared.frame_word.Word.{Word}
 use Rattle.page_ids.specs.declared.ids.PageId.{PageId}
 use Rattle.page_disk.specs.Disks.{DiskSeen}
-use Rattle.redo_mark.specs.Device.{Told}
+use Rattle.redo_mark.specs.Device.{RedoSeen}
 use Rattle.redo_mark.specs.Logs as log
 use Rattle.redo_mark.specs.Logs.{Seen, Grows}
 use Rattle.trail.specs.declared.event.Cause.{Cause}
@@ -36,11 +36,11 @@ use Rattle.desk.specs.State.{State}
 use Rattle.desk.specs.Steps.{IsAppended, IsRefused, row_in}
 use Rattle.desk.specs.Tied.{AreTied, IsTied, HasTurn, IsOwn}
 use Rattle.desk.specs.Victims.{IsHad, IsUnhad, MustWrite, IsAhead, MustCover, IsSettled, AreSettled, IsCleanedFirst, LeavesTurn}
-use Rattle.desk.specs.Walk.{AreOrderly}
+use Rattle.instance_lists.specs.Walk.{AreOrderly}
 use Rattle.desk.specs.declared.calls.Caller.{Caller}
 use Rattle.desk.specs.declared.flush.WriteErr.{WriteErr}
 use Rattle.desk.specs.declared.flush.WriteErr.TheVariants as unwritten
-use Rattle.desk.proofs.Dirt.{same_is}
+use Rattle.instance_lists.proofs.Dirt.{same_is}
 use Rattle.desk.proofs.PassedWords.{AreInOrder, passed_by_are}
 use Rattle.desk.proofs.Logging.{upto_none, upto_more}
 use Rattle.desk.proofs.Finding.{sought_at, sought_is}
@@ -124,8 +124,8 @@ grows_same : (x : Option (List ℕ)) → Grows x x
 grows_same None = refl
 grows_same (Some a) = ([], sym (append-nil a))
 
-pub log_same : {R : Type 0} (told : R → Option Told) (s : log.State R) (h : List Entry) → KeepsLog told s s h h
-log_same told s h = record {
+pub log_same : {R : Type 0} (log_seen : R → RedoSeen) (s : log.State R) (h : List Entry) → KeepsLog log_seen s s h h
+log_same log_seen s h = record {
   later = record { first = refl; opened = refl; durable = omega arith; end = omega arith; faults = omega arith; bytes = grows_same s.seen.bytes };
   opening = refl;
   kept = λ is. is;
@@ -271,8 +271,8 @@ pub refused_absent : {D : Type 0} (mid new : State D) (by : Caller) (q : PageId)
 refused_absent mid new by q asked why a none = ap (λ (h : List Entry). home h q) a.history ∙ none
 
 -- entries of a kind that no log has to know
-pub log_on : {R : Type 0} (told : R → Option Told) (old new : log.State R) (h k l : List Entry) → ((x : Seen) → IsLogged x k → IsLogged x l) → log_end l ≡ log_end k → ((m : ℕ) (g : List Entry) → AreUpTo m g k → AreUpTo m g l) → KeepsLog told old new h k → KeepsLog told old new h l
-log_on told old new h k l logged ends upto keeps = record {
+pub log_on : {R : Type 0} (log_seen : R → RedoSeen) (old new : log.State R) (h k l : List Entry) → ((x : Seen) → IsLogged x k → IsLogged x l) → log_end l ≡ log_end k → ((m : ℕ) (g : List Entry) → AreUpTo m g k → AreUpTo m g l) → KeepsLog log_seen old new h k → KeepsLog log_seen old new h l
+log_on log_seen old new h k l logged ends upto keeps = record {
   later = keeps.later;
   opening = keeps.opening;
   kept = keeps.kept;
@@ -282,9 +282,9 @@ log_on told old new h k l logged ends upto keeps = record {
   mark = keeps.mark;
 }
 
-pub log_appended : {D : Type 0} {R : Type 0} (told : R → Option Told) (old new : log.State R) (h : List Entry) (mid desk : State D) (by : Caller) (k : Kind) → ((x : Seen) → IsLoggedKind x k) → ((n : ℕ) → log_end_after k n ≡ n) → ((m : ℕ) → IsUpTo m k)
-    → IsAppended mid desk by k → KeepsLog told old new h mid.history → KeepsLog told old new h desk.history
-log_appended told old new h mid desk by k kinds ends marks a keeps = log_on told old new h mid.history desk.history
+pub log_appended : {D : Type 0} {R : Type 0} (log_seen : R → RedoSeen) (old new : log.State R) (h : List Entry) (mid desk : State D) (by : Caller) (k : Kind) → ((x : Seen) → IsLoggedKind x k) → ((n : ℕ) → log_end_after k n ≡ n) → ((m : ℕ) → IsUpTo m k)
+    → IsAppended mid desk by k → KeepsLog log_seen old new h mid.history → KeepsLog log_seen old new h desk.history
+log_appended log_seen old new h mid desk by k kinds ends marks a keeps = log_on log_seen old new h mid.history desk.history
     (λ x is. subst (λ (l : List Entry). IsLogged x l) (sym a.history) (kinds x, is)) (ap log_end a.history ∙ ends (log_end mid.history))
     (λ m g were. upto_more m g mid.history desk.history (entry_behind mid.config.first mid.history by k) (marks m) a.history were) keeps
 

@@ -15,9 +15,9 @@ use Rattle.frame_words.specs.Rows.{Row}
 use Rattle.desk.specs.Claimed.{ArePassedBy, StopsAt}
 use Rattle.desk.specs.State.{State}
 use Rattle.desk.specs.Victims.{IsFull}
-use Rattle.desk.specs.Walk.{AreOrderly}
+use Rattle.instance_lists.specs.Walk.{AreOrderly}
 use Rattle.trail.proofs.LookUps.{before_split, is_some_and, just_itself}
-use Rattle.desk.proofs.Walks.{before_once, before_other, walk_once, housed_walked}
+use Rattle.instance_lists.proofs.Walks.{before_once, before_other, walk_once, housed_walked}
 use Rattle.desk.proofs.PassedWords.{AreInOrder, AreJustOf, in_order_are, just_passed, frames_are}
 
 none_in : (hand : Option Hand) (free : List ℕ) → option_map_or (λ (x : Hand). Some x.frame) hand (front free) ≡ None → free ≡ []

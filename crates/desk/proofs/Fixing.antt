@@ -1,5 +1,5 @@
 -- A whole fix, put together from its steps.
-use Rattle.std.proofs.Common.{◌≡◌, ◌<◌, ◌≤◌, ◌+◌, ℕ, Bool, true, false, cond, not, ◌&&◌, List, Option, None, Some, IfSome, IsSome, IsSomeAnd, length, set, refl, ap, ◌∙◌, sym, subst, arith, inl, inr, length-set, Result, Ok, Err, IfOk, OnOk}
+use Rattle.std.proofs.Common.{◌≡◌, ◌<◌, ◌≤◌, ◌+◌, ℕ, Bool, true, false, cond, not, ◌&&◌, List, Option, None, Some, IfSome, IsSome, IsSomeAnd, length, set, refl, ap, ◌∙◌, sym, subst, arith, inl, inr, length-set}
 use Rattle.std.specs.Prelude.{MatchOption, ⊤}
 use Rattle.std.specs.Option.{is_some, option_map}
 use Rattle.page_ids.specs.Content.{Content}
@@ -18,7 +18,7 @@ use Rattle.trail.specs.History.{home, value}
 use Rattle.trail.specs.Dirt.{dirty, dirt_of, is_dirty, cleaned, log_end, log_end_after}
 use Rattle.frame_words.specs.Rows.{Row, reached, held_row}
 use Rattle.frame_words.specs.Seen.{FramesSeen}
-use Rattle.desk.specs.Changes.{LeavesDesk}
+use Rattle.desk.specs.Changes.{LeavesDesk, changed_row}
 use Rattle.desk.specs.Fixing.{IsFixRefusal, NeedsNoVictim, IsUnlogged, fix_err_of}
 use Rattle.desk.specs.Loads.{MayFix, IsOneMore}
 use Rattle.desk.specs.Logged.{IsLogged, IsLoggedKind, IsUpTo}
@@ -30,7 +30,7 @@ use Rattle.desk.specs.declared.calls.FixErr.{FixErr}
 use Rattle.desk.specs.declared.calls.FixErr.TheVariants as refusal
 use Rattle.desk.specs.declared.calls.FrameErr.{FrameErr}
 use Rattle.desk.specs.declared.calls.FrameErr.TheVariants as unhad
-use Rattle.desk.proofs.Dirt.{cleaned_of, no_way}
+use Rattle.instance_lists.proofs.Dirt.{cleaned_of, no_way}
 use Rattle.desk.proofs.Logging.{upto_more}
 use Rattle.desk.specs.Ledger.{entry_behind}
 use Rattle.desk.proofs.Evicting.{has_turn, still_few, still_own}
@@ -83,6 +83,17 @@ settled_held rows now f is settled = subst AreSettled (sym is)
     go None image is = is
     go (Some n) image is = is
 
+-- an image that was changed is told, as the fixes are
+pub settled_put : (rows now : List Row) (f : ℕ) (c : Content) (n : ℕ) → ((g : ℕ) → g < length rows → IsSome (row_in rows g).held × IfSome (row_in rows g).image (λ told. IsSome told))
+    → now ≡ set rows f (changed_row (row_in rows f) c n) → AreSettled rows → AreSettled now
+settled_put rows now f c n alone is settled = subst AreSettled (sym is)
+    (settled_set rows f (changed_row (row_in rows f) c n) (λ inside resident. go (row_in rows f).held ((row_in rows f).resident && true) (alone f inside).0) settled)
+  where
+    go : (held : Option ℕ) (b : Bool) → IsSome held
+        → MatchOption held (IfSome (reached held b (Some (Some c))) (λ told. told ≡ None)) (λ n. IfSome (reached held b (Some (Some c))) (λ told. IsSome told))
+    go (Some n) b is = refl
+    go None b is = absurd (no_way (sym is))
+
 cleaned_value : (first : ℕ) (by : Caller) (q : PageId) (old mid : List Entry) (size : ℕ) (base : PageId → Option Content) (p : PageId) → IsCleanedFirst first by q old mid
     → value size base mid p ≡ value size base old p
 cleaned_value first by q old mid size base p (inl clean) = ap (λ (h : List Entry). value size base h p) clean.1
@@ -119,15 +130,6 @@ still_may s t old new by p left config instance may = record {
   own = still_own s t old new p left config instance may.own;
   few = still_few s t left may.few;
 }
-
--- what is so is so where the answer is a grant
-pub if_granted : {A B P : Type 0} (r : Result A B) → P → IfOk r (λ x. P)
-if_granted (Ok x) is = is
-if_granted (Err e) is = tt
-
-pub on_granted : {A B P : Type 0} (r : Result A B) → P → OnOk r P
-on_granted (Ok x) is = is
-on_granted (Err e) is = tt
 
 -- what refuses a fix before any hold is looked at
 pub any_open : (o : Option (List Held)) → IfSome o (λ x. ⊤)

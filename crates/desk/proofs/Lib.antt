@@ -1,10 +1,3 @@
-pub mod Dirt
-pub mod ListsNew
-pub mod ListsOrder
-pub mod ListsFlush
-pub mod ListsKept
-pub mod ListsMaking
-pub mod ListsWalk
 pub mod Keeping
 pub mod Logging
 pub mod BehindParts
@@ -17,7 +10,6 @@ pub mod Cleaning
 pub mod BehindWrites
 pub mod Changing
 pub mod Checking
-pub mod Walks
 pub mod PassedWords
 pub mod Values
 pub mod Claims
@@ -28,3 +20,4 @@ pub mod Asking
 pub mod Creating
 pub mod Fixing
 pub mod Making
+pub mod Moments

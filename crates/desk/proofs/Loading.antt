@@ -21,7 +21,8 @@ use Rattle.frame_words.specs.Rows.{Row, reached, published_row}
 use Rattle.frame_words.specs.Seen.{FramesSeen, row_at, with_row, noted}
 use Rattle.desk.specs.Base.{Opened}
 use Rattle.desk.specs.Behind.{IsBehind, IsValueIn}
-use Rattle.desk.specs.Ledger.{IsVacant, entry_behind}
+use Rattle.instance_lists.specs.Ledger.{IsVacant}
+use Rattle.desk.specs.Ledger.{entry_behind}
 use Rattle.desk.specs.State.{State}
 use Rattle.desk.specs.Steps.{IsAppended, next_entry}
 use Rattle.desk.specs.declared.calls.Caller.{Caller}

@@ -24,7 +24,8 @@ use Rattle.frame_words.specs.Seen.{FramesSeen, History, row_at, with_row, noted,
 use Rattle.desk.specs.Base.{Opened}
 use Rattle.desk.specs.Behind.{IsBehind, IsValueIn}
 use Rattle.desk.specs.Creating.{blank_at, made_row}
-use Rattle.desk.specs.Ledger.{IsVacant, entry_behind}
+use Rattle.instance_lists.specs.Ledger.{IsVacant}
+use Rattle.desk.specs.Ledger.{entry_behind}
 use Rattle.desk.specs.Loads.{MayFix}
 use Rattle.desk.specs.Making.{shown}
 use Rattle.desk.specs.State.{State}
@@ -34,7 +35,7 @@ use Rattle.desk.specs.Victims.{AreSettled}
 use Rattle.desk.specs.declared.calls.Caller.{Caller}
 use Rattle.desk.proofs.Behind.{made, value_in}
 use Rattle.desk.proofs.BehindParts.{dirty_here, dirty_other}
-use Rattle.desk.proofs.Dirt.{same_self, same_is, no_way, dirtied_here, dirtied_other}
+use Rattle.instance_lists.proofs.Dirt.{same_self, same_is, no_way, dirtied_here, dirtied_other}
 use Rattle.desk.proofs.Fixing.{settled_loaded, settled_held}
 use Rattle.desk.proofs.Loading.{visiting, IsBased, value_published}
 use Rattle.desk.proofs.Rows.{row_here, row_else, each_row, set_twice, told_step, told_map, some_map, some_mapped, row_held, row_loaded, row_other, reached_told, vacant_away}

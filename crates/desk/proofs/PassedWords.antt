@@ -23,9 +23,9 @@ use Rattle.frame_words.specs.Seen.{FramesSeen, row_at, with_row, Finds, noted}
 use Rattle.desk.specs.Claimed.{HasLooked, IsTaken, ArePassedBy}
 use Rattle.desk.specs.Steps.{row_in}
 use Rattle.desk.specs.Victims.{AreFoundOn}
-use Rattle.desk.proofs.Dirt.{same_self, no_way}
+use Rattle.instance_lists.proofs.Dirt.{same_self, no_way}
 use Rattle.trail.proofs.LookUps.{passed_of}
-use Rattle.desk.proofs.Walks.{one, times, contains_cases, contains_more, contains_first}
+use Rattle.instance_lists.proofs.Walks.{one, times, contains_cases, contains_more, contains_first}
 
 pub each_some : {A : Type 0} (o : Option A) (P : A → Type 0) → ((x : A) → o ≡ Some x → P x) → IfSome o P
 each_some None P all = tt

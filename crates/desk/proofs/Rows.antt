@@ -12,10 +12,10 @@ use Rattle.trail.specs.declared.event.Kind.TheVariants as kind
 use Rattle.trail.specs.History.{home, home_after, change, changes}
 use Rattle.frame_words.specs.Rows.{Row, new_row, reached, published_row, laid_row, held_row}
 use Rattle.frame_words.specs.Seen.{FramesSeen, row_at, with_row}
-use Rattle.desk.specs.Ledger.{IsVacant}
+use Rattle.instance_lists.specs.Ledger.{IsVacant}
 use Rattle.desk.specs.Steps.{loaded_row}
 use Rattle.desk.specs.Tied.{IsTied, OnTold}
-use Rattle.desk.proofs.Dirt.{same_self, same_is}
+use Rattle.instance_lists.proofs.Dirt.{same_self, same_is}
 use Rattle.desk.proofs.Keeping.{entry_of}
 use mathlib.Core.Logic.{dite}
 use native.Mathlib.Decide.{ℕ_discrete}

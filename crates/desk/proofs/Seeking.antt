@@ -9,10 +9,11 @@ use Rattle.trail.specs.History.{home}
 use Rattle.trail.specs.Victim.{from_the_tail}
 use Rattle.frame_words.specs.Rows.{Row}
 use Rattle.frame_words.specs.Seen.{FramesSeen, row_at}
-use Rattle.desk.specs.Claimed.{HasLooked, IsClaimed, IsTaken, ArePassedBy, StopsAt, test_of, part_of}
-use Rattle.desk.specs.Walk.{first_home, next_home, AreOrderly}
+use Rattle.instance_lists.specs.Walk.{test_of, part_of, start_of, first_tried}
+use Rattle.desk.specs.Claimed.{HasLooked, IsClaimed, IsTaken, ArePassedBy, StopsAt}
+use Rattle.instance_lists.specs.Walk.{first_home, next_home, AreOrderly}
 use Rattle.desk.proofs.PassedWords.{looked_same, looked_on, passed_looked}
-use Rattle.desk.proofs.Walks.{left_at, first_there, stands_at, next_there, left_there, left_less, all_walked, part_more, test_passes}
+use Rattle.instance_lists.proofs.Walks.{left_at, first_there, stands_at, next_there, left_there, left_less, all_walked, part_more, test_passes}
 
 pub record SoFar (c : Config) (h : List Entry) (was now : FramesSeen) (soiled : Bool) (at : Option ℕ) (before passed : List (ℕ × Word)) : Type 0 where
   pub done : List PageId
@@ -23,7 +24,7 @@ pub record SoFar (c : Config) (h : List Entry) (was now : FramesSeen) (soiled : 
   pub passed_are : (pages : List PageId) → ArePassedBy h was.rows was.found pages before → ArePassedBy h was.rows now.found (pages ++ filter (test_of h soiled) done) passed
 
 -- at the tail
-pub so_far_none : (c : Config) (h : List Entry) (s : FramesSeen) (soiled : Bool) (at : Option ℕ) (before : List (ℕ × Word)) → at ≡ next_home h None (from_the_tail c h) → SoFar c h s s soiled at before before
+so_far_none : (c : Config) (h : List Entry) (s : FramesSeen) (soiled : Bool) (at : Option ℕ) (before : List (ℕ × Word)) → at ≡ next_home h None (from_the_tail c h) → SoFar c h s s soiled at before before
 so_far_none c h s soiled at before is = record {
   done = [];
   rest = from_the_tail c h;
@@ -32,6 +33,21 @@ so_far_none c h s soiled at before is = record {
   looked = looked_same s;
   passed_are = λ pages are. subst (λ (l : List PageId). ArePassedBy h s.rows s.found l before) (sym (append-nil pages)) are;
 }
+
+-- where the search begins: at the tail, or nowhere where there is no page of the kind
+pub so_far_first : (c : Config) (h : List Entry) (s : FramesSeen) (soiled : Bool) (at : Option ℕ) (before : List (ℕ × Word)) → at ≡ first_tried c h soiled → SoFar c h s s soiled at before before
+so_far_first c h s soiled at before is = go (part_of c h soiled) refl is
+  where
+    go : (part : List PageId) → part_of c h soiled ≡ part → at ≡ start_of part (first_home h (from_the_tail c h)) → SoFar c h s s soiled at before before
+    go [] none at_is = record {
+      done = from_the_tail c h;
+      rest = [];
+      split = sym (append-nil (from_the_tail c h));
+      at_is = at_is;
+      looked = looked_same s;
+      passed_are = λ pages are. subst (λ (l : List PageId). ArePassedBy h s.rows s.found l before) (sym (ap (λ (l : List PageId). pages ++ l) none ∙ append-nil pages)) are;
+    }
+    go (p ∷ ps) some at_is = so_far_none c h s soiled at before at_is
 
 -- where the walk stands
 pub record IsAt (c : Config) (h : List Entry) (done rest : List PageId) (f : ℕ) : Type 0 where

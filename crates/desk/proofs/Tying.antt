@@ -26,12 +26,13 @@ use Rattle.frame_words.specs.Rows.{Row, new_row, reached, published_row, lifted_
 use Rattle.frame_words.specs.Seen.{FramesSeen, History, row_at, with_row, noted, visited, is_owed}
 use Rattle.desk.specs.Base.{Opened}
 use Rattle.desk.specs.Behind.{IsBehind}
-use Rattle.desk.specs.Ledger.{Ledger, IsVacant, MayCome, entry_behind}
+use Rattle.instance_lists.specs.Ledger.{Ledger, IsVacant, MayCome}
+use Rattle.desk.specs.Ledger.{entry_behind}
 use Rattle.desk.specs.State.{State, AreInside}
 use Rattle.desk.specs.Steps.{IsAppended, next_entry}
 use Rattle.desk.specs.Tied.{AreTied, IsTied, OnTold, IsOwn}
 use Rattle.desk.specs.declared.calls.Caller.{Caller}
-use Rattle.desk.proofs.Dirt.{same_self, same_is, no_way}
+use Rattle.instance_lists.proofs.Dirt.{same_self, same_is, no_way}
 use Rattle.desk.proofs.Behind.{made, appended_is, behind_same, read_value}
 use Rattle.desk.proofs.Rows.{row_here, row_else, each_row, set_twice, set_same, image_held, told_step, told_map, some_map, some_mapped, row_still, row_held, row_laid, row_loaded, row_other, vacant_away}
 use Rattle.desk.proofs.Loading.{inside_below, visiting, loaded, IsBased, behind_laid, behind_refused, behind_fixed, behind_loaded}

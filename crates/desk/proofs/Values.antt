@@ -19,7 +19,7 @@ use Rattle.frame_words.specs.Seen.{FramesSeen, row_at}
 use Rattle.desk.specs.Base.{Opened}
 use Rattle.desk.specs.Behind.{IsBehind, IsValueIn}
 use Rattle.desk.specs.State.{State}
-use Rattle.desk.proofs.Dirt.{no_way, same_is, dirtied_here, dirtied_other, cleaned_of}
+use Rattle.instance_lists.proofs.Dirt.{no_way, same_is, dirtied_here, dirtied_other, cleaned_of}
 use Rattle.desk.proofs.BehindParts.{IsStill, clean_other, fades_keeps}
 
 -- a desk of these parts
@@ -34,64 +34,6 @@ pub value_in : (o : Opened) (s t : FramesSeen) (image : Option (Option Content))
 value_in o s t None v same is = is
 value_in o s t (Some None) v same is = (same ∙ is.0, is.1)
 value_in o s t (Some (Some c)) v same is = is
-
--- the newest LSN of a dirty page, where its value has that
-abbrev HasNewest : Option Content → Option Dirty → Type 0
-HasNewest v o = (c : Content) (d : Dirty) → v ≡ Some c → o ≡ Some d → c.lsn ≡ d.newest
-
-newest_put : (o : Option Dirty) (q : PageId) (end n : ℕ) (d : Dirty) → Rattle.std.specs.Prelude.IsSomeAnd o (λ x. (x.page ≡ q) × (x.newest ≡ end)) → o ≡ Some d → n ≡ end → n ≡ d.newest
-newest_put None q end n d is e same = absurd is
-newest_put (Some x) q end n d is e same = let is_d : x ≡ d = cc in same ∙ sym is.1 ∙ ap (λ (y : Dirty). y.newest) is_d
-
-mapped_lsn : (v : Option Content) (at end : ℕ) (bytes : List ℕ) (c : Content) → option_map (λ x. patched x at bytes end) v ≡ Some c → c.lsn ≡ end
-mapped_lsn None at end bytes c e = absurd (cc)
-mapped_lsn (Some x) at end bytes c e = let is : patched x at bytes end ≡ c = cc in sym (ap (λ (y : Content). y.lsn) is)
-
-newest_step : (size : ℕ) (k : Kind) (p : PageId) (v : Option Content) (ds : List Dirty) → HasNewest v (dirt_of ds p) → HasNewest (value_after size k p v) (dirt_of (dirty_after k ds) p)
-newest_step size (kind.Load q f) p v ds was = was
-newest_step size (kind.Fix q f clock now) p v ds was = was
-newest_step size (kind.Create q f start end now) p v ds was = go (same_page q p) refl
-  where
-    go : (b : Bool) → same_page q p ≡ b → HasNewest (cond b (Some (record { lsn = end; bytes = Rattle.std.specs.Prelude.replicate size 0 })) v) (dirt_of (dirtied q start end ds) p)
-    go true is c d e there =
-        let here : dirt_of (dirtied q start end ds) q ≡ Some d = ap (dirt_of (dirtied q start end ds)) (same_is q p is) ∙ there in
-        let blank : record { lsn = end; bytes = Rattle.std.specs.Prelude.replicate size 0 } ≡ c = cc in
-        newest_put (dirt_of (dirtied q start end ds) q) q end c.lsn d (dirtied_here ds q start end) here (sym (ap (λ (y : Content). y.lsn) blank))
-    go false is c d e there = was c d e (sym (dirtied_other ds q p start end is) ∙ there)
-newest_step size (kind.Put q at bytes start end) p v ds was = go (same_page q p) refl
-  where
-    go : (b : Bool) → same_page q p ≡ b → HasNewest (cond b (option_map (λ c. patched c at bytes end) v) v) (dirt_of (dirtied q start end ds) p)
-    go true is c d e there =
-        let here : dirt_of (dirtied q start end ds) q ≡ Some d = ap (dirt_of (dirtied q start end ds)) (same_is q p is) ∙ there in
-        newest_put (dirt_of (dirtied q start end ds) q) q end c.lsn d (dirtied_here ds q start end) here (mapped_lsn v at end bytes c e)
-    go false is c d e there = was c d e (sym (dirtied_other ds q p start end is) ∙ there)
-newest_step size (kind.Evict q f passed) p v ds was = was
-newest_step size (kind.Write q lsn upto) p v ds was = go (same_page q p) refl
-  where
-    go : (b : Bool) → same_page q p ≡ b → HasNewest v (dirt_of (cleaned q ds) p)
-    go true is c d e there =
-        let none : dirt_of (cleaned q ds) p ≡ None = cleaned_of ds q p ∙ ap (λ (b : Bool). cond b None (dirt_of ds p)) is in
-        absurd (cc)
-    go false is c d e there = was c d e (sym (cleaned_of ds q p ∙ ap (λ (b : Bool). cond b None (dirt_of ds p)) is) ∙ there)
-newest_step size (kind.Move q from to) p v ds was = was
-newest_step size (kind.Withdraw from) p v ds was = was
-newest_step size (kind.Undo from) p v ds was = was
-newest_step size (kind.Shrink chunks) p v ds was = was
-newest_step size (kind.Grow chunks) p v ds was = was
-newest_step size (kind.Resize bytes chunks) p v ds was = was
-newest_step size (kind.Clean written skipped) p v ds was = was
-newest_step size (kind.Check lsn) p v ds was = was
-newest_step size (kind.WatchSet q) p v ds was = was
-newest_step size (kind.WatchAt q f) p v ds was = was
-newest_step size (kind.Occurred q arrived) p v ds was = was
-newest_step size (kind.Unwatch q) p v ds was = was
-newest_step size (kind.Dump pct ids) p v ds was = was
-newest_step size (kind.Refused asked why) p v ds was = was
-
--- the value of a dirty page has the end LSN of its last change
-pub newest_lsn : (size : ℕ) (base : PageId → Option Content) (h : List Entry) (p : PageId) → HasNewest (value size base h p) (dirt_of (dirty h) p)
-newest_lsn size base [] p = λ c d e there. let none : None ≡ Some d = there in absurd (cc)
-newest_lsn size base (e ∷ h) p = newest_step size e.kind p (value size base h p) (dirty h) (newest_lsn size base h p)
 
 module _ {D : Type 0} (seen : D → DiskSeen) (o : Opened) where
   abbrev Stands : State D → FramesSeen → Type 0

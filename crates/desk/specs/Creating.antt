@@ -1,11 +1,9 @@
 -- What a create does, and why it is refused.
-use Rattle.std.specs.Prelude.{ℕ, List, ◌≡◌, ◌+◌, ◌<◌, ◌≤◌, ◌^◌, ◌⊎◌, ⊤, Option, None, Some, IfSome, length, replicate, slice_set}
+use Rattle.std.specs.Prelude.{ℕ, List, ◌≡◌, ◌+◌, ◌<◌, ◌≤◌, ◌^◌, ◌⊎◌, ⊤, None, Some, replicate, slice_set}
 use Rattle.page_ids.specs.Content.{Content}
 use Rattle.page_ids.specs.Size.{page_bytes}
 use Rattle.page_ids.specs.declared.ids.PageId.{PageId}
 use Rattle.page_disk.specs.Disks.{DiskSeen, pages_in}
-use Rattle.redo_mark.specs.Device.{Told}
-use Rattle.redo_mark.specs.Logs as log
 use Rattle.trail.specs.declared.event.Call.TheVariants as call
 use Rattle.trail.specs.declared.event.Cause.TheVariants as cause
 use Rattle.trail.specs.declared.event.Kind.TheVariants as kind
@@ -13,17 +11,11 @@ use Rattle.trail.specs.Trails.{mark}
 use Rattle.trail.specs.Book.{book, frame_in_turn}
 use Rattle.trail.specs.History.{home}
 use Rattle.frame_words.specs.Rows.{Row, laid_row, published_row, held_row}
-use Rattle.frame_words.specs.Seen.{FramesSeen}
-use Rattle.desk.specs.Base.{Opened}
-use Rattle.desk.specs.Behind.{IsBehind}
-use Rattle.desk.specs.Changes.{LeavesDesk}
-use Rattle.desk.specs.Claimed.{KeepsLog}
 use Rattle.desk.specs.Fixing.{IsHeldFull, IsUnseated, IsUnwritten}
 use Rattle.desk.specs.State.{State}
 use Rattle.desk.specs.Steps.{IsAppended, IsRefused, IsOutside, row_in}
-use Rattle.desk.specs.Ledger.{IsVacant}
-use Rattle.desk.specs.Tied.{AreTied}
-use Rattle.desk.specs.Victims.{IsHad, AreSettled, MustWrite, MustCover}
+use Rattle.instance_lists.specs.Ledger.{IsVacant}
+use Rattle.desk.specs.Victims.{IsHad, MustWrite, MustCover}
 use Rattle.desk.specs.declared.calls.Caller.{Caller}
 use Rattle.desk.specs.declared.calls.Granted.{Granted}
 use Rattle.desk.specs.declared.calls.CreateErr.{CreateErr}
@@ -115,15 +107,3 @@ IsUnused old new (refusal.AllFixed words) = new ≡ old
 IsUnused old new (refusal.RedoFault before after) = ⊤
 IsUnused old new (refusal.DiskFault before after) = ⊤
 IsUnused old new (refusal.LogSpent end) = ⊤
-
--- what a desk, its frames and its log are behind a create
-pub record LeavesAll {D R : Type 0} (seen : D → DiskSeen) (logged : R → Option Told)
-    (old new : State D) (s t : FramesSeen) (was is : log.State R) : Type 0 where
-  pub count : length new.history ≤ length old.history + 3
-  pub tied : AreTied seen t new
-  pub settled : AreSettled t.rows
-  pub desk : LeavesDesk seen old new
-  pub log : KeepsLog logged was is old.history new.history
-  -- the log's device was used only where the log had to be made durable
-  pub covered : (is.disk ≡ was.disk) ⊎ MustCover old s.rows was.seen.durable
-  pub behind : (o : Opened) → IfSome s.base (λ base. base ≡ o.base) → IsBehind seen o old s → IsBehind seen o new t

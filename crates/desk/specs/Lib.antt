@@ -1,8 +1,6 @@
 pub mod State
 pub mod Reads
 pub mod Ledger
-pub mod KeptLists
-pub mod Walk
 pub mod Steps
 pub mod Base
 pub mod Behind
@@ -15,4 +13,6 @@ pub mod Victims
 pub mod Fixing
 pub mod Claimed
 pub mod Creating
+pub mod Moments
+pub mod Answers
 pub mod Making

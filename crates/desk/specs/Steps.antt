@@ -17,7 +17,8 @@ use Rattle.trail.specs.Trails.{mark}
 use Rattle.trail.specs.History.{home, change}
 use Rattle.trail.specs.Book.{book, frame_in_turn}
 use Rattle.frame_words.specs.Rows.{Row, new_row, laid_row, published_row, held_row}
-use Rattle.desk.specs.Ledger.{IsVacant, entry_behind}
+use Rattle.instance_lists.specs.Ledger.{IsVacant}
+use Rattle.desk.specs.Ledger.{entry_behind}
 use Rattle.desk.specs.State.{State}
 use Rattle.desk.specs.declared.calls.Caller.{Caller}
 use Rattle.desk.specs.declared.calls.Granted.{Granted}

@@ -13,7 +13,7 @@ use Rattle.frame_words.specs.Rows.{Row}
 use Rattle.frame_words.specs.Seen.{FramesSeen, row_at}
 use Rattle.desk.specs.Base.{Opened}
 use Rattle.desk.specs.Behind.{IsBehind}
-use Rattle.desk.specs.Ledger.{IsVacant}
+use Rattle.instance_lists.specs.Ledger.{IsVacant}
 use Rattle.desk.specs.State.{State}
 use Rattle.desk.specs.declared.calls.Caller.{Caller}
 

@@ -1,14 +1,8 @@
 //! The checkpoint: from where a redo would have to begin.
-ghost use Rattle.std.specs.Prelude.{◌≡◌, ◌<◌, ◌≤◌, ◌+◌, ◌^◌, OnErr, IfOk, length};
+ghost use Rattle.std.specs.Prelude.{◌≡◌, ◌<◌, ◌≤◌, ◌+◌, ◌^◌, length};
 ghost use Rattle.trail.specs.Dirt.{dirty, log_end};
-ghost use Rattle.frame_words.specs.Appends.{appended};
-ghost use Rattle.frame_words.specs.Seen.{FramesSeen};
-ghost use Rattle.desk.specs.Base.{Opened};
-ghost use Rattle.desk.specs.Behind.{IsBehind};
-ghost use Rattle.desk.specs.Checks.{IsChecked, redo_start};
-ghost use Rattle.desk.specs.Logged.{IsLogged};
-ghost use Rattle.desk.specs.Steps.{IsAppended, next_entry};
-ghost use Rattle.desk.specs.Tied.{AreTied};
+ghost use Rattle.desk.specs.Checks.{redo_start, Checks};
+ghost use Rattle.desk.specs.Steps.{IsAppended};
 
 use crate::calls::{CallErr, Caller};
 use crate::desk::Desk;
@@ -36,7 +30,7 @@ impl<D: PageDisk> Desk<D> {
         ensures appended { IsAppended self.old.state self.new.state by (Kind.Check lsn) }
         ensures disk { self.new.state.disk ≡ self.old.state.disk }
     {
-        let entry = self.lists.next(by, Kind::Check { lsn });
+        let entry = self.lists.next(by.pass, by.number, Kind::Check { lsn });
         self.lists.append(entry);
     }
 
@@ -48,14 +42,8 @@ impl<D: PageDisk> Desk<D> {
     pub fn check_at<R: RedoDisk>(&mut self, redo: &Redo<R>, by: Caller) -> Result<u64, CallErr>
         requires places { self.old.state.config.first + length self.old.state.history + 1 < 2 ^ 48 }
         requires known { log_end self.old.state.history ≤ redo.now.seen.end }
-        ensures ok { IfOk result (λ lsn. IsChecked self.old.state self.new.state by redo.now.seen.end lsn) }
-        ensures refused { OnErr result (self.new.state ≡ self.old.state) }
-        ensures logged { IsLogged redo.now.seen self.old.state.history → IsLogged redo.now.seen self.new.state.history }
-        ensures known { log_end self.new.state.history ≤ redo.now.seen.end }
-        ensures tied { IfOk result (λ lsn. (s : FramesSeen) → AreTied D.seen s self.old.state
-            → AreTied D.seen (appended s (next_entry self.old.state by (Kind.Check lsn))) self.new.state) }
-        ensures behind { IfOk result (λ lsn. (o : Opened) (s : FramesSeen) → IsBehind D.seen o self.old.state s
-            → IsBehind D.seen o self.new.state (appended s (next_entry self.old.state by (Kind.Check lsn)))) }
+        ensures answers { Checks D.seen self.old.state self.new.state redo.now.seen by result }
+        ensures disk { self.new.state.disk ≡ self.old.state.disk }
     {
         if self.room_for(1).is_err() {
             return Err(CallErr::OutOfMemory);

@@ -61,7 +61,7 @@ impl<D: PageDisk> Desk<D> {
         ensures desk { LeavesDesk D.seen self.old.state self.new.state }
         ensures later { IsLater redo.old.seen redo.new.seen }
         ensures opening { redo.new.opening ≡ redo.old.opening }
-        ensures kept { IsKept redo.new.seen (R.told redo.new.disk) }
+        ensures kept { IsKept redo.new.seen (R.seen redo.new.disk).told }
     {
         write_page(&mut self.disk, redo, page, image, &mut self.buffer)
     }
@@ -101,7 +101,7 @@ impl<D: PageDisk> Desk<D> {
         ensures known { log_end self.new.state.history ≤ redo.new.seen.end }
         ensures later { IsLater redo.old.seen redo.new.seen }
         ensures opening { redo.new.opening ≡ redo.old.opening }
-        ensures kept { IsKept redo.new.seen (R.told redo.new.disk) }
+        ensures kept { IsKept redo.new.seen (R.seen redo.new.disk).told }
         ensures behind { (o : Opened) → IsBehind D.seen o self.old.state (F.seen frames.old)
             → IsBehind D.seen o self.new.state (F.seen frames.new) }
     {
@@ -175,7 +175,7 @@ impl<D: PageDisk> Desk<D> {
         ensures known { log_end self.new.state.history ≤ redo.new.seen.end }
         ensures later { IsLater redo.old.seen redo.new.seen }
         ensures opening { redo.new.opening ≡ redo.old.opening }
-        ensures kept { IsKept redo.old.seen (R.told redo.old.disk) → IsKept redo.new.seen (R.told redo.new.disk) }
+        ensures kept { IsKept redo.old.seen (R.seen redo.old.disk).told → IsKept redo.new.seen (R.seen redo.new.disk).told }
         ensures behind { (o : Opened) → IsBehind D.seen o self.old.state (F.seen frames.old)
             → IsBehind D.seen o self.new.state (F.seen frames.new) }
     {
@@ -243,7 +243,7 @@ impl<D: PageDisk> Desk<D> {
         ensures known { log_end self.new.state.history ≤ redo.new.seen.end }
         ensures later { IsLater redo.old.seen redo.new.seen }
         ensures opening { redo.new.opening ≡ redo.old.opening }
-        ensures kept { IsKept redo.old.seen (R.told redo.old.disk) → IsKept redo.new.seen (R.told redo.new.disk) }
+        ensures kept { IsKept redo.old.seen (R.seen redo.old.disk).told → IsKept redo.new.seen (R.seen redo.new.disk).told }
         ensures behind { (o : Opened) → IsBehind D.seen o self.old.state (F.seen frames.old)
             → IsBehind D.seen o self.new.state (F.seen frames.new) }
         ensures synced { IsTrue sync → OnOk result (IsTrue (D.seen self.new.state.disk).synced) }
@@ -308,7 +308,7 @@ impl<D: PageDisk> Desk<D> {
         ensures known { log_end self.new.state.history ≤ redo.new.seen.end }
         ensures later { IsLater redo.old.seen redo.new.seen }
         ensures opening { redo.new.opening ≡ redo.old.opening }
-        ensures kept { IsKept redo.old.seen (R.told redo.old.disk) → IsKept redo.new.seen (R.told redo.new.disk) }
+        ensures kept { IsKept redo.old.seen (R.seen redo.old.disk).told → IsKept redo.new.seen (R.seen redo.new.disk).told }
         ensures sizes { ((D.seen self.new.state.disk).size ≡ (D.seen self.old.state.disk).size)
             × ((space : ℕ) → (D.seen self.new.state.disk).spaces space ≡ (D.seen self.old.state.disk).spaces space) }
         ensures telling { (D.seen self.new.state.disk).tells ≡ (D.seen self.old.state.disk).tells }

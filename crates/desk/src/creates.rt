@@ -1,26 +1,24 @@
 //! The create: a page is made new and blank in a frame that was had for it, logged first, and a fix of it is granted.
-ghost use Rattle.std.specs.Prelude.{◌≡◌, ◌<◌, ◌≤◌, ◌+◌, ◌^◌, ◌⊎◌, [], ℕ, Some, None, false, IsErr, OnOk, OnErr, IfOk, IfErr, IfSome, length};
+ghost use Rattle.std.specs.Prelude.{◌≡◌, ◌<◌, ◌≤◌, ◌+◌, ◌^◌, ℕ, Some, None, OnOk, IfOk, length};
 ghost use Rattle.page_ids.specs.Size.{page_bytes};
-ghost use Rattle.page_disk.specs.Disks.{pages_in, IsInside};
-ghost use Rattle.redo_mark.specs.Logs.{IsLater, IsKept};
-ghost use Rattle.redo_mark.specs.Records.{head_of};
+ghost use Rattle.page_disk.specs.Disks.{IsInside};
+ghost use Rattle.redo_mark.specs.Records.{head_of, record_of};
 ghost use Rattle.trail.specs.Book.{book, frame_in_turn};
-ghost use Rattle.trail.specs.Dirt.{is_dirty, log_end};
+ghost use Rattle.trail.specs.Dirt.{log_end};
 ghost use Rattle.trail.specs.History.{home};
 ghost use Rattle.trail.specs.Trails.{mark};
 ghost use Rattle.frame_words.specs.Rows.{laid_row};
 ghost use Rattle.frame_words.specs.Seen.{KeepsRoom, row_at, with_row};
-ghost use Rattle.desk.specs.Base.{Opened};
-ghost use Rattle.desk.specs.Behind.{IsBehind};
-ghost use Rattle.desk.specs.Changes.{LeavesDesk};
-ghost use Rattle.desk.specs.Creating.{IsMade, IsCreatedBy, IsCreateRefusal, IsUnused, LeavesAll, create_err_of, blank_at};
-ghost use Rattle.desk.specs.Ledger.{IsVacant};
+ghost use Rattle.desk.specs.Answers.{IsAsked, MayTake, IsNext, IsCreateSpan, Creates};
+ghost use Rattle.desk.specs.Creating.{IsMade, create_err_of, blank_at};
+ghost use Rattle.instance_lists.specs.Ledger.{IsVacant};
 ghost use Rattle.desk.specs.Loads.{MayFix};
-ghost use Rattle.desk.specs.Logged.{IsLogged, IsMarkBehind, AreUpTo, create_change};
+ghost use Rattle.desk.specs.Logged.{create_change};
 ghost use Rattle.desk.specs.Making.{shown};
+ghost use Rattle.desk.specs.Moments.{LogSeen, moment, moment_of, HasPlaces, IsAtRest, IsReady, Keeps};
 ghost use Rattle.desk.specs.Steps.{IsAppended, next_entry};
-ghost use Rattle.desk.specs.Tied.{AreTied, HasTurn, IsOwn};
-ghost use Rattle.desk.specs.Victims.{AreSettled, MustCover};
+ghost use Rattle.desk.specs.Tied.{AreTied};
+ghost use Rattle.redo_mark.specs.Logs.{Holds};
 
 use crate::calls::{Caller, CreateErr, FrameErr, Granted};
 use crate::desk::Desk;
@@ -103,28 +101,16 @@ impl<D: PageDisk> Desk<D> {
         now: u64,
         span: Span,
     ) -> Granted
-        requires places { self.old.state.config.first + length self.old.state.history + 1 < 2 ^ 48 }
-        requires room { 0 < self.old.room }
-        requires inside { IsInside (D.seen self.old.state.disk).spaces page }
-        requires below { frame < self.old.state.config.frames }
-        requires vacant { IsVacant self.old.state.history frame }
-        requires absent { home self.old.state.history page ≡ None }
-        requires clean { is_dirty self.old.state.history page ≡ false }
-        requires next { frame_in_turn (book self.old.state.config self.old.state.history) ≡ Some frame }
+        requires entries { HasPlaces 1 self.old }
+        requires rest { IsAtRest D.seen self.old.state (F.seen frames.old) }
+        requires asked { MayTake D.seen (F.seen frames.old) self.old.state by page }
+        requires next { IsNext self.old.state frame }
+        requires span { IsCreateSpan self.old.state span }
         requires fix { 0 < F.room frames.old frame }
-        requires tied { AreTied D.seen (F.seen frames.old) self.old.state }
-        requires settled { AreSettled (F.seen frames.old).rows }
-        requires caller { MayFix (F.seen frames.old) self.old.state by page }
-        requires span { (log_end self.old.state.history ≤ span.start) × (span.end ≡ span.start + 21) }
+        ensures keeps { (l : LogSeen) → Holds l.seen (record_of (create_change page) span.start) span.start → span.end ≤ l.seen.end
+            → Keeps D.seen 1 (moment self.old.state (F.seen frames.old) l) (moment self.new.state (F.seen frames.new) l) }
         ensures made { IsMade self.old.state self.new.state (F.seen frames.old).rows (F.seen frames.new).rows by page now span.start result }
         ensures frame { result.frame ≡ frame }
-        ensures room { self.old.room ≤ self.new.room + 1 }
-        ensures tied { AreTied D.seen (F.seen frames.new) self.new.state }
-        ensures settled { AreSettled (F.seen frames.new).rows }
-        ensures left { LeavesDesk D.seen self.old.state self.new.state }
-        ensures behind { (o : Opened) → IfSome (F.seen frames.old).base (λ base. base ≡ o.base)
-            → IsBehind D.seen o self.old.state (F.seen frames.old)
-            → IsBehind D.seen o self.new.state (F.seen frames.new) }
     {
         self.lay_blank(frames, frame, span.end);
         let place = self.show_made(frames, by, page, frame, now, span);
@@ -153,25 +139,16 @@ impl<D: PageDisk> Desk<D> {
         page: PageId,
         now: u64,
     ) -> Result<Granted, CreateErr>
-        requires places { self.old.state.config.first + length self.old.state.history + 3 < 2 ^ 48 }
-        requires room { 3 ≤ self.old.room }
-        requires inside { IsInside (D.seen self.old.state.disk).spaces page }
-        requires absent { home self.old.state.history page ≡ None }
-        requires clean { is_dirty self.old.state.history page ≡ false }
-        requires tied { AreTied D.seen (F.seen frames.old) self.old.state }
-        requires settled { AreSettled (F.seen frames.old).rows }
-        requires caller { MayFix (F.seen frames.old) self.old.state by page }
+        requires entries { HasPlaces 3 self.old }
+        requires ready { IsReady D.seen (moment_of F.seen R.seen self.old frames.old redo.old) by }
+        requires asked { MayTake D.seen (F.seen frames.old) self.old.state by page }
         requires fixes { (f : ℕ) → f < length (F.seen frames.old).rows → 0 < F.room frames.old f }
-        requires known { log_end self.old.state.history ≤ redo.old.seen.end }
-        ensures created { IfOk result (λ g. IsCreatedBy self.old.state self.new.state (F.seen frames.old).rows (F.seen frames.new).rows by page now
-            redo.old.seen.end redo.new.seen.end g) }
-        ensures refused { IfErr result (λ e. (held : ℕ) → held < 64 → IsCreateRefusal D.seen self.old.state self.new.state
-            (F.seen frames.old).rows (F.seen frames.new).rows by held page now redo.old.seen.durable redo.old.seen.end redo.new.seen.end
-            redo.old.seen.faults redo.new.seen.faults e) }
-        ensures full { 2 ^ 63 < redo.old.seen.end + 21 → IsErr result }
-        ensures unused { IfErr result (λ e. IsUnused redo.old redo.new e) }
-        ensures leaves { LeavesAll D.seen R.told self.old.state self.new.state
-            (F.seen frames.old) (F.seen frames.new) redo.old redo.new }
+        ensures keeps { Keeps D.seen 3
+            (moment_of F.seen R.seen self.old frames.old redo.old)
+            (moment_of F.seen R.seen self.new frames.new redo.new) }
+        ensures answers { (held : ℕ) → held < 64 → Creates D.seen
+            (moment_of F.seen R.seen self.old frames.old redo.old)
+            (moment_of F.seen R.seen self.new frames.new redo.new) by held page now result }
     {
         let alloc = self.lists.allocator();
         let Ok(draft) = create_draft(alloc, page) else {
@@ -202,26 +179,16 @@ impl<D: PageDisk> Desk<D> {
         page: PageId,
         now: u64,
     ) -> Result<Granted, CreateErr>
-        requires places { self.old.state.config.first + length self.old.state.history + 3 < 2 ^ 48 }
-        requires entries { 3 ≤ self.old.room }
-        requires tied { AreTied D.seen (F.seen frames.old) self.old.state }
-        requires settled { AreSettled (F.seen frames.old).rows }
-        requires turn { HasTurn (F.seen frames.old) by }
-        requires own { IsOwn (F.seen frames.old) self.old.state page }
-        requires held { IfSome (F.seen frames.old).opened (λ opened. (length opened ≡ held) × (held ≤ 64)) }
-        requires room { held < 64 → (f : ℕ) → f < length (F.seen frames.old).rows → 0 < F.room frames.old f }
-        requires known { log_end self.old.state.history ≤ redo.old.seen.end }
-        ensures created { IfOk result (λ g. IsCreatedBy self.old.state self.new.state (F.seen frames.old).rows (F.seen frames.new).rows by page now
-            redo.old.seen.end redo.new.seen.end g) }
-        ensures inside { IfOk result (λ g. page.page < pages_in (D.seen self.old.state.disk).spaces page.space) }
-        ensures few { OnOk result (held < 64) }
-        ensures refused { IfErr result (λ e. IsCreateRefusal D.seen self.old.state self.new.state
-            (F.seen frames.old).rows (F.seen frames.new).rows by held page now redo.old.seen.durable redo.old.seen.end redo.new.seen.end
-            redo.old.seen.faults redo.new.seen.faults e) }
-        ensures full { 2 ^ 63 < redo.old.seen.end + 21 → IsErr result }
-        ensures unused { IfErr result (λ e. IsUnused redo.old redo.new e) }
-        ensures leaves { LeavesAll D.seen R.told self.old.state self.new.state
-            (F.seen frames.old) (F.seen frames.new) redo.old redo.new }
+        requires entries { HasPlaces 3 self.old }
+        requires ready { IsReady D.seen (moment_of F.seen R.seen self.old frames.old redo.old) by }
+        requires asked { IsAsked (F.seen frames.old) self.old.state held page }
+        requires fixes { held < 64 → (f : ℕ) → f < length (F.seen frames.old).rows → 0 < F.room frames.old f }
+        ensures keeps { Keeps D.seen 3
+            (moment_of F.seen R.seen self.old frames.old redo.old)
+            (moment_of F.seen R.seen self.new frames.new redo.new) }
+        ensures answers { Creates D.seen
+            (moment_of F.seen R.seen self.old frames.old redo.old)
+            (moment_of F.seen R.seen self.new frames.new redo.new) by held page now result }
     {
         let pages = self.pages(page.space);
         if page.page >= pages {
@@ -260,37 +227,15 @@ impl<D: PageDisk> Desk<D> {
         now: u64,
     ) -> Result<Granted, CreateErr>
         requires places { self.old.state.config.first + length self.old.state.history + 3 < 2 ^ 48 }
-        requires tied { AreTied D.seen (F.seen frames.old) self.old.state }
-        requires settled { AreSettled (F.seen frames.old).rows }
-        requires turn { HasTurn (F.seen frames.old) by }
-        requires own { IsOwn (F.seen frames.old) self.old.state page }
-        requires held { IfSome (F.seen frames.old).opened (λ opened. (length opened ≡ held) × (held ≤ 64)) }
-        requires room { held < 64 → (f : ℕ) → f < length (F.seen frames.old).rows → 0 < F.room frames.old f }
-        requires known { log_end self.old.state.history ≤ redo.old.seen.end }
-        ensures created { IfOk result (λ g. IsCreatedBy self.old.state self.new.state (F.seen frames.old).rows (F.seen frames.new).rows by page now
-            redo.old.seen.end redo.new.seen.end g) }
-        ensures inside { IfOk result (λ g. page.page < pages_in (D.seen self.old.state.disk).spaces page.space) }
-        ensures few { OnOk result (held < 64) }
-        ensures refused { IfErr result (λ e. IsCreateRefusal D.seen self.old.state self.new.state
-            (F.seen frames.old).rows (F.seen frames.new).rows by held page now redo.old.seen.durable redo.old.seen.end redo.new.seen.end
-            redo.old.seen.faults redo.new.seen.faults e) }
-        ensures full { 2 ^ 63 < redo.old.seen.end + 21 → IsErr result }
-        ensures covered { (redo.new.disk ≡ redo.old.disk) ⊎ MustCover self.old.state (F.seen frames.old).rows redo.old.seen.durable }
-        ensures marks { IsMarkBehind redo.old.seen redo.new.seen.durable }
-        ensures unused { IfErr result (λ e. IsUnused redo.old redo.new e) }
-        ensures tied { AreTied D.seen (F.seen frames.new) self.new.state }
-        ensures settled { AreSettled (F.seen frames.new).rows }
-        ensures grown { length self.new.state.history ≤ length self.old.state.history + 3 }
-        ensures left { LeavesDesk D.seen self.old.state self.new.state }
-        ensures logged { IsLogged redo.old.seen self.old.state.history → IsLogged redo.new.seen self.new.state.history }
-        ensures known { log_end self.new.state.history ≤ redo.new.seen.end }
-        ensures upto { AreUpTo redo.new.seen.durable self.old.state.history self.new.state.history }
-        ensures later { IsLater redo.old.seen redo.new.seen }
-        ensures opening { redo.new.opening ≡ redo.old.opening }
-        ensures kept { IsKept redo.old.seen (R.told redo.old.disk) → IsKept redo.new.seen (R.told redo.new.disk) }
-        ensures behind { (o : Opened) → IfSome (F.seen frames.old).base (λ base. base ≡ o.base)
-            → IsBehind D.seen o self.old.state (F.seen frames.old)
-            → IsBehind D.seen o self.new.state (F.seen frames.new) }
+        requires ready { IsReady D.seen (moment_of F.seen R.seen self.old frames.old redo.old) by }
+        requires asked { IsAsked (F.seen frames.old) self.old.state held page }
+        requires fixes { held < 64 → (f : ℕ) → f < length (F.seen frames.old).rows → 0 < F.room frames.old f }
+        ensures keeps { Keeps D.seen 3
+            (moment_of F.seen R.seen self.old frames.old redo.old)
+            (moment_of F.seen R.seen self.new frames.new redo.new) }
+        ensures answers { Creates D.seen
+            (moment_of F.seen R.seen self.old frames.old redo.old)
+            (moment_of F.seen R.seen self.new frames.new redo.new) by held page now result }
     {
         if self.reserve_create().is_err() {
             return Err(CreateErr::OutOfMemory);

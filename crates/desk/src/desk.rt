@@ -15,15 +15,16 @@ ghost use Rattle.frame_words.specs.Rows.{latched_row, lifted_row};
 ghost use Rattle.frame_words.specs.Seen.{FramesSeen, row_at, with_row, KeepsRoom};
 ghost use Rattle.desk.specs.Base.{Opened};
 ghost use Rattle.desk.specs.Behind.{IsBehind, IsOpening};
-ghost use Rattle.desk.specs.Ledger.{IsOneChunk, MayCome, ledger_of};
+ghost use Rattle.instance_lists.specs.Ledger.{IsOneChunk, MayCome};
+ghost use Rattle.desk.specs.Ledger.{ledger_of};
 ghost use Rattle.desk.specs.Loads.{AreBlank};
 ghost use Rattle.desk.specs.State.{State};
 ghost use Rattle.desk.specs.Steps.{IsAppended, IsFresh, next_entry};
 ghost use Rattle.desk.specs.Tied.{AreTied};
 
 use crate::calls::Caller;
-use crate::lists::Lists;
 use frame_words::{Frames, PlainFrames};
+use instance_lists::InstanceLists;
 use page_disk::PageDisk;
 use page_ids::{Config, Image, OutOfMemory, PageId};
 use std::alloc::Global;
@@ -34,7 +35,7 @@ use trail::{Entry, Kind};
 #[derive(Drop)]
 pub struct Desk<D: PageDisk> {
     pub(crate) instance: u16,
-    pub(crate) lists: Lists,
+    pub(crate) lists: InstanceLists,
     pub(crate) disk: D,
     /// As long as a page.
     pub(crate) buffer: Vec<u8>,
@@ -116,7 +117,7 @@ impl<D: PageDisk> Desk<D> {
         ensures disk { self.new.state.disk ≡ self.old.state.disk }
         ensures room { self.old.room ≤ self.new.room + 1 }
     {
-        let entry = self.lists.next(by, kind);
+        let entry = self.lists.next(by.pass, by.number, kind);
         frames.append(&entry);
         self.lists.append(entry);
     }
@@ -165,12 +166,12 @@ pub(crate) fn take_image<F: Frames>(frames: &mut F, frame: u32) -> Image
 }
 
 /// The lists of a new desk, and its buffer.
-fn parts_of(alloc: Global, config: &Config) -> Result<(Lists, Vec<u8>), OutOfMemory>
+fn parts_of(alloc: Global, config: &Config) -> Result<(InstanceLists, Vec<u8>), OutOfMemory>
     requires start { IsOneChunk config.now }
     ensures lists { IfOk result (λ parts. (parts.0.config ≡ config.now) × (parts.0.history ≡ [])) }
     ensures buffer { IfOk result (λ parts. vec_len parts.1 ≡ page_bytes config.now.page) }
 {
-    let lists = Lists::new(alloc, config)?;
+    let lists = InstanceLists::new(alloc, config)?;
     let buffer = vec![in alloc; 0; config.page.bytes() as usize]?;
     Ok((lists, buffer))
 }

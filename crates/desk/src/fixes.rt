@@ -1,27 +1,25 @@
 //! The fix: a page that is not resident is read into a frame, and a fix is granted or refused.
-ghost use Rattle.std.specs.Prelude.{◌≡◌, ◌<◌, ◌≤◌, ◌+◌, ◌^◌, ◌⊎◌, ℕ, Some, None, Err, OnOk, OnErr, IfOk, IfErr, IfSome, IsSome, length, slice_set, false};
+ghost use Rattle.std.specs.Prelude.{◌≡◌, ◌<◌, ◌≤◌, ◌+◌, ◌^◌, ℕ, Some, None, Err, OnOk, OnErr, IfErr, IfSome, length, slice_set, false};
 ghost use Rattle.page_ids.specs.Content.{Content};
 ghost use Rattle.page_ids.specs.declared.layout.BadPage.{BadPage};
 ghost use Rattle.page_disk.specs.Disks.{pages_in, IsInside, IsSameDisk};
 ghost use Rattle.trail.specs.Trails.{mark};
-ghost use Rattle.trail.specs.History.{home, value};
+ghost use Rattle.trail.specs.History.{home};
 ghost use Rattle.trail.specs.Book.{book, frame_in_turn};
-ghost use Rattle.trail.specs.Dirt.{is_dirty, log_end};
-ghost use Rattle.redo_mark.specs.Logs.{IsLater, IsKept};
+ghost use Rattle.trail.specs.Dirt.{is_dirty};
 ghost use Rattle.frame_words.specs.Rows.{published_row};
 ghost use Rattle.frame_words.specs.Seen.{row_at, KeepsRoom};
+ghost use Rattle.desk.specs.Answers.{IsAsked, IsRefusable, Refuses, MayTake, IsNext, Loads, Fixes};
 ghost use Rattle.desk.specs.Base.{Opened};
 ghost use Rattle.desk.specs.Behind.{IsBehind};
-ghost use Rattle.desk.specs.Changes.{LeavesDesk};
-ghost use Rattle.desk.specs.Claimed.{KeepsLog};
-ghost use Rattle.desk.specs.Fixing.{IsMiss, IsGrantedBy, IsFixRefusal, NeedsNoVictim, IsUnlogged, fix_err_of};
-ghost use Rattle.desk.specs.Ledger.{IsVacant};
-ghost use Rattle.desk.specs.Loads.{MayFix, MayRefuse, IsRead, IsInImage, IsOneMore};
-ghost use Rattle.desk.specs.Logged.{IsLogged, IsMarkBehind, AreUpTo};
+ghost use Rattle.desk.specs.Fixing.{fix_err_of};
+ghost use Rattle.instance_lists.specs.Ledger.{IsVacant};
+ghost use Rattle.desk.specs.Loads.{MayFix, IsRead, IsInImage, IsOneMore};
+ghost use Rattle.desk.specs.Logged.{IsLoggedCause};
+ghost use Rattle.desk.specs.Moments.{LogSeen, moment, moment_of, HasPlaces, IsAtRest, IsReady, Keeps};
 ghost use Rattle.desk.specs.Reads.{IsReadRefusal};
-ghost use Rattle.desk.specs.Steps.{IsAppended, IsRefused, IsLoaded, IsHit, IsLoadRefusal};
-ghost use Rattle.desk.specs.Tied.{AreTied, HasTurn, IsOwn};
-ghost use Rattle.desk.specs.Victims.{AreSettled, MustCover, AsksFor};
+ghost use Rattle.desk.specs.Steps.{IsAppended, IsHit, IsLoadRefusal};
+ghost use Rattle.desk.specs.Tied.{AreTied};
 
 use crate::calls::{Caller, FixErr, FrameErr, Granted};
 use crate::desk::Desk;
@@ -105,6 +103,7 @@ impl<D: PageDisk> Desk<D> {
         ensures appended { IsAppended self.old.state self.new.state by (Kind.Load page frame) }
         ensures rows { (F.seen frames.new).rows ≡ slice_set (F.seen frames.old).rows frame
             (published_row (row_at (F.seen frames.old) frame) page (mark self.old.state.config.first self.old.state.history + 1)) }
+        ensures base { (F.seen frames.new).base ≡ (F.seen frames.old).base }
         ensures room { self.old.room ≤ self.new.room + 1 }
         ensures fixes { KeepsRoom (F.room frames.old) (F.room frames.new) }
         ensures caller { MayFix (F.seen frames.new) self.new.state by page }
@@ -128,30 +127,17 @@ impl<D: PageDisk> Desk<D> {
         frame: u32,
         now: u64,
     ) -> Result<(), FixErr>
-        requires places { self.old.state.config.first + length self.old.state.history + 1 < 2 ^ 48 }
-        requires room { 0 < self.old.room }
-        requires inside { IsInside (D.seen self.old.state.disk).spaces page }
-        requires next { frame_in_turn (book self.old.state.config self.old.state.history) ≡ Some frame }
-        requires below { frame < self.old.state.config.frames }
-        requires vacant { IsVacant self.old.state.history frame }
-        requires absent { home self.old.state.history page ≡ None }
-        requires clean { is_dirty self.old.state.history page ≡ false }
-        requires tied { AreTied D.seen (F.seen frames.old) self.old.state }
-        requires settled { AreSettled (F.seen frames.old).rows }
-        requires caller { MayFix (F.seen frames.old) self.old.state by page }
-        ensures ok { OnOk result (IsLoaded D.seen self.old.state self.new.state (F.seen frames.old).rows (F.seen frames.new).rows by page frame) }
-        ensures room { OnOk result (self.old.room ≤ self.new.room + 1) }
-        ensures fixes { OnOk result (KeepsRoom (F.room frames.old) (F.room frames.new)) }
-        ensures caller { OnOk result (MayFix (F.seen frames.new) self.new.state by page) }
+        requires entries { HasPlaces 1 self.old }
+        requires rest { IsAtRest D.seen self.old.state (F.seen frames.old) }
+        requires asked { MayTake D.seen (F.seen frames.old) self.old.state by page }
+        requires next { IsNext self.old.state frame }
+        ensures keeps { (l : LogSeen) → Keeps D.seen 1 (moment self.old.state (F.seen frames.old) l) (moment self.new.state (F.seen frames.new) l) }
+        ensures loaded { OnOk result (Loads D.seen self.old.state self.new.state (F.seen frames.old) (F.seen frames.new) by page frame) }
         ensures refused { IfErr result (λ e. IsLoadRefusal D.seen self.old.state self.new.state by page now e) }
         ensures unmoved { OnErr result ((F.seen frames.new).rows ≡ (F.seen frames.old).rows) }
-        ensures tied { AreTied D.seen (F.seen frames.new) self.new.state }
-        ensures settled { AreSettled (F.seen frames.new).rows }
         ensures more { IsOneMore self.old.state.history self.new.state.history }
-        ensures left { LeavesDesk D.seen self.old.state self.new.state }
-        ensures behind { (o : Opened) → IfSome (F.seen frames.old).base (λ base. base ≡ o.base)
-            → IsBehind D.seen o self.old.state (F.seen frames.old)
-            → IsBehind D.seen o self.new.state (F.seen frames.new) }
+        ensures room { OnOk result (self.old.room ≤ self.new.room + 1) }
+        ensures fixes { OnOk result (KeepsRoom (F.room frames.old) (F.room frames.new)) }
     {
         match self.read_in(frames, page, frame) {
             Ok(()) => {
@@ -180,19 +166,12 @@ impl<D: PageDisk> Desk<D> {
         call: Call,
         cause: Cause,
     )
-        requires places { self.old.state.config.first + length self.old.state.history + 1 < 2 ^ 48 }
-        requires room { 0 < self.old.room }
-        requires tied { AreTied D.seen (F.seen frames.old) self.old.state }
-        requires turn { HasTurn (F.seen frames.old) by }
-        requires own { IsOwn (F.seen frames.old) self.old.state page }
-        requires asked { AsksFor page call }
-        requires may { MayRefuse (F.seen frames.old) call cause }
-        ensures appended { IsRefused self.old.state self.new.state by call cause }
-        ensures unmoved { (F.seen frames.new).rows ≡ (F.seen frames.old).rows }
-        ensures tied { AreTied D.seen (F.seen frames.new) self.new.state }
-        ensures disk { self.new.state.disk ≡ self.old.state.disk }
-        ensures behind { (o : Opened) → IsBehind D.seen o self.old.state (F.seen frames.old)
-            → IsBehind D.seen o self.new.state (F.seen frames.new) }
+        requires entries { HasPlaces 1 self.old }
+        requires rest { IsAtRest D.seen self.old.state (F.seen frames.old) }
+        requires asked { IsRefusable (F.seen frames.old) self.old.state by page call cause }
+        ensures keeps { (l : LogSeen) → IsLoggedCause l.seen cause
+            → Keeps D.seen 1 (moment self.old.state (F.seen frames.old) l) (moment self.new.state (F.seen frames.new) l) }
+        ensures refused { Refuses self.old.state self.new.state (F.seen frames.old).rows (F.seen frames.new).rows by call cause }
     {
         self.append(frames, by, Kind::Refused { call, cause });
     }
@@ -206,22 +185,15 @@ impl<D: PageDisk> Desk<D> {
         frame: u32,
         now: u64,
     ) -> Granted
-        requires places { self.old.state.config.first + length self.old.state.history + 1 < 2 ^ 48 }
-        requires room { 0 < self.old.room }
+        requires entries { HasPlaces 1 self.old }
+        requires rest { IsAtRest D.seen self.old.state (F.seen frames.old) }
+        requires caller { MayFix (F.seen frames.old) self.old.state by page }
         requires resident { home self.old.state.history page ≡ Some frame }
         requires below { frame < self.old.state.config.frames }
         requires fix { 0 < F.room frames.old frame }
-        requires tied { AreTied D.seen (F.seen frames.old) self.old.state }
-        requires settled { AreSettled (F.seen frames.old).rows }
-        requires caller { MayFix (F.seen frames.old) self.old.state by page }
+        ensures keeps { (l : LogSeen) → Keeps D.seen 1 (moment self.old.state (F.seen frames.old) l) (moment self.new.state (F.seen frames.new) l) }
         ensures hit { IsHit self.old.state self.new.state (F.seen frames.old).rows (F.seen frames.new).rows by page now result }
         ensures frame { result.frame ≡ frame }
-        ensures tied { AreTied D.seen (F.seen frames.new) self.new.state }
-        ensures settled { AreSettled (F.seen frames.new).rows }
-        ensures more { IsOneMore self.old.state.history self.new.state.history }
-        ensures left { LeavesDesk D.seen self.old.state self.new.state }
-        ensures behind { (o : Opened) → IsBehind D.seen o self.old.state (F.seen frames.old)
-            → IsBehind D.seen o self.new.state (F.seen frames.new) }
     {
         let place = self.lists.mark() + 1;
         let clock = frames.visit(frame).clock();
@@ -251,34 +223,16 @@ impl<D: PageDisk> Desk<D> {
         page: PageId,
         now: u64,
     ) -> Result<Granted, FixErr>
-        requires places { self.old.state.config.first + length self.old.state.history + 4 < 2 ^ 48 }
-        requires room { 4 ≤ self.old.room }
-        requires inside { IsInside (D.seen self.old.state.disk).spaces page }
-        requires absent { home self.old.state.history page ≡ None }
-        requires clean { is_dirty self.old.state.history page ≡ false }
-        requires tied { AreTied D.seen (F.seen frames.old) self.old.state }
-        requires settled { AreSettled (F.seen frames.old).rows }
-        requires caller { MayFix (F.seen frames.old) self.old.state by page }
+        requires entries { HasPlaces 4 self.old }
+        requires ready { IsReady D.seen (moment_of F.seen R.seen self.old frames.old redo.old) by }
+        requires asked { MayTake D.seen (F.seen frames.old) self.old.state by page }
         requires fixes { (f : ℕ) → f < length (F.seen frames.old).rows → 0 < F.room frames.old f }
-        requires known { log_end self.old.state.history ≤ redo.old.seen.end }
-        ensures granted { IfOk result (λ g. IsMiss D.seen self.old.state self.new.state (F.seen frames.old).rows (F.seen frames.new).rows by page now g) }
-        ensures refused { IfErr result (λ e. (held : ℕ) → held < 64 → IsFixRefusal D.seen self.old.state self.new.state
-            (F.seen frames.old).rows (F.seen frames.new).rows by held page now redo.old.seen.durable redo.old.seen.faults redo.new.seen.faults e) }
-        ensures free { IsSome (frame_in_turn (book self.old.state.config self.old.state.history)) → redo.new ≡ redo.old }
-        ensures covered { (redo.new ≡ redo.old) ⊎ MustCover self.old.state (F.seen frames.old).rows redo.old.seen.durable }
-        ensures unlogged { IfErr result (λ e. IsUnlogged redo.old redo.new e) }
-        ensures tied { AreTied D.seen (F.seen frames.new) self.new.state }
-        ensures settled { AreSettled (F.seen frames.new).rows }
-        ensures grown { length self.new.state.history ≤ length self.old.state.history + 4 }
-        ensures left { LeavesDesk D.seen self.old.state self.new.state }
-        ensures log { KeepsLog R.told redo.old redo.new self.old.state.history self.new.state.history }
-        ensures behind { (o : Opened) → IfSome (F.seen frames.old).base (λ base. base ≡ o.base)
-            → IsBehind D.seen o self.old.state (F.seen frames.old)
-            → IsBehind D.seen o self.new.state (F.seen frames.new) }
-        ensures valued { (o : Opened) → IsBehind D.seen o self.old.state (F.seen frames.old)
-            → IfOk result (λ g. IsSome (value o.size o.base self.old.state.history page)) }
-        ensures unsound { (o : Opened) (bad : BadPage) → IsBehind D.seen o self.old.state (F.seen frames.old)
-            → result ≡ Err (FixErr.BadPage bad) → value o.size o.base self.old.state.history page ≡ None }
+        ensures keeps { Keeps D.seen 4
+            (moment_of F.seen R.seen self.old frames.old redo.old)
+            (moment_of F.seen R.seen self.new frames.new redo.new) }
+        ensures answers { (held : ℕ) → held < 64 → Fixes D.seen
+            (moment_of F.seen R.seen self.old frames.old redo.old)
+            (moment_of F.seen R.seen self.new frames.new redo.new) by held page now result }
     {
         let call = Call::Fix { page, now };
         let frame = match self.have_frame(frames, redo, by, page, call) {
@@ -288,6 +242,44 @@ impl<D: PageDisk> Desk<D> {
         match self.load(frames, by, page, frame, now) {
             Ok(()) => Ok(self.grant(frames, by, page, frame, now)),
             Err(refusal) => Err(refusal),
+        }
+    }
+
+    /// Fixes a page, where there is room for the entries.
+    fn fix_reserved<F: Frames, R: RedoDisk>(
+        &mut self,
+        frames: &mut F,
+        redo: &mut Redo<R>,
+        by: Caller,
+        held: u32,
+        page: PageId,
+        now: u64,
+    ) -> Result<Granted, FixErr>
+        requires entries { HasPlaces 4 self.old }
+        requires ready { IsReady D.seen (moment_of F.seen R.seen self.old frames.old redo.old) by }
+        requires asked { IsAsked (F.seen frames.old) self.old.state held page }
+        requires fixes { held < 64 → (f : ℕ) → f < length (F.seen frames.old).rows → 0 < F.room frames.old f }
+        ensures keeps { Keeps D.seen 4
+            (moment_of F.seen R.seen self.old frames.old redo.old)
+            (moment_of F.seen R.seen self.new frames.new redo.new) }
+        ensures answers { Fixes D.seen
+            (moment_of F.seen R.seen self.old frames.old redo.old)
+            (moment_of F.seen R.seen self.new frames.new redo.new) by held page now result }
+    {
+        let pages = self.pages(page.space);
+        if page.page >= pages {
+            let call = Call::Fix { page, now };
+            self.refuse(frames, by, page, call, Cause::NoSuchPage { pages });
+            return Err(FixErr::NoSuchPage { pages });
+        }
+        if held >= 64 {
+            let call = Call::Fix { page, now };
+            self.refuse(frames, by, page, call, Cause::HoldFull { held });
+            return Err(FixErr::HoldFull { held });
+        }
+        match self.home_of(page) {
+            Some(frame) => Ok(self.grant(frames, by, page, frame, now)),
+            None => self.fix_absent(frames, redo, by, page, now),
         }
     }
 
@@ -306,58 +298,20 @@ impl<D: PageDisk> Desk<D> {
         now: u64,
     ) -> Result<Granted, FixErr>
         requires places { self.old.state.config.first + length self.old.state.history + 4 < 2 ^ 48 }
-        requires tied { AreTied D.seen (F.seen frames.old) self.old.state }
-        requires settled { AreSettled (F.seen frames.old).rows }
-        requires turn { HasTurn (F.seen frames.old) by }
-        requires own { IsOwn (F.seen frames.old) self.old.state page }
-        requires held { IfSome (F.seen frames.old).opened (λ opened. (length opened ≡ held) × (held ≤ 64)) }
-        requires room { held < 64 → (f : ℕ) → f < length (F.seen frames.old).rows → 0 < F.room frames.old f }
-        requires known { log_end self.old.state.history ≤ redo.old.seen.end }
-        ensures granted { IfOk result (λ g. IsGrantedBy D.seen self.old.state self.new.state (F.seen frames.old).rows (F.seen frames.new).rows by page now g) }
-        ensures inside { IfOk result (λ g. page.page < pages_in (D.seen self.old.state.disk).spaces page.space) }
-        ensures few { OnOk result (held < 64) }
-        ensures refused { IfErr result (λ e. IsFixRefusal D.seen self.old.state self.new.state
-            (F.seen frames.old).rows (F.seen frames.new).rows by held page now redo.old.seen.durable redo.old.seen.faults redo.new.seen.faults e) }
-        ensures unlogged { NeedsNoVictim D.seen self.old.state held page → redo.new ≡ redo.old }
-        ensures covered { (redo.new ≡ redo.old) ⊎ MustCover self.old.state (F.seen frames.old).rows redo.old.seen.durable }
-        ensures marks { IsMarkBehind redo.old.seen redo.new.seen.durable }
-        ensures unused { IfErr result (λ e. IsUnlogged redo.old redo.new e) }
-        ensures tied { AreTied D.seen (F.seen frames.new) self.new.state }
-        ensures settled { AreSettled (F.seen frames.new).rows }
-        ensures grown { length self.new.state.history ≤ length self.old.state.history + 4 }
-        ensures left { LeavesDesk D.seen self.old.state self.new.state }
-        ensures logged { IsLogged redo.old.seen self.old.state.history → IsLogged redo.new.seen self.new.state.history }
-        ensures known { log_end self.new.state.history ≤ redo.new.seen.end }
-        ensures upto { AreUpTo redo.new.seen.durable self.old.state.history self.new.state.history }
-        ensures later { IsLater redo.old.seen redo.new.seen }
-        ensures opening { redo.new.opening ≡ redo.old.opening }
-        ensures kept { IsKept redo.old.seen (R.told redo.old.disk) → IsKept redo.new.seen (R.told redo.new.disk) }
-        ensures behind { (o : Opened) → IfSome (F.seen frames.old).base (λ base. base ≡ o.base)
-            → IsBehind D.seen o self.old.state (F.seen frames.old)
-            → IsBehind D.seen o self.new.state (F.seen frames.new) }
-        ensures valued { (o : Opened) → IsBehind D.seen o self.old.state (F.seen frames.old)
-            → IfOk result (λ g. IsSome (value o.size o.base self.old.state.history page)) }
-        ensures unsound { (o : Opened) (bad : BadPage) → IsBehind D.seen o self.old.state (F.seen frames.old)
-            → result ≡ Err (FixErr.BadPage bad) → value o.size o.base self.old.state.history page ≡ None }
+        requires ready { IsReady D.seen (moment_of F.seen R.seen self.old frames.old redo.old) by }
+        requires asked { IsAsked (F.seen frames.old) self.old.state held page }
+        requires fixes { held < 64 → (f : ℕ) → f < length (F.seen frames.old).rows → 0 < F.room frames.old f }
+        ensures keeps { Keeps D.seen 4
+            (moment_of F.seen R.seen self.old frames.old redo.old)
+            (moment_of F.seen R.seen self.new frames.new redo.new) }
+        ensures answers { Fixes D.seen
+            (moment_of F.seen R.seen self.old frames.old redo.old)
+            (moment_of F.seen R.seen self.new frames.new redo.new) by held page now result }
     {
-        let pages = self.pages(page.space);
         if self.reserve_fix().is_err() {
             return Err(FixErr::OutOfMemory);
         }
-        if page.page >= pages {
-            let call = Call::Fix { page, now };
-            self.refuse(frames, by, page, call, Cause::NoSuchPage { pages });
-            return Err(FixErr::NoSuchPage { pages });
-        }
-        if held >= 64 {
-            let call = Call::Fix { page, now };
-            self.refuse(frames, by, page, call, Cause::HoldFull { held });
-            return Err(FixErr::HoldFull { held });
-        }
-        match self.home_of(page) {
-            Some(frame) => Ok(self.grant(frames, by, page, frame, now)),
-            None => self.fix_absent(frames, redo, by, page, now),
-        }
+        self.fix_reserved(frames, redo, by, held, page, now)
     }
 }
 

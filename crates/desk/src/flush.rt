@@ -36,7 +36,7 @@ fn cover<R: RedoDisk>(redo: &mut Redo<R>, lsn: u64) -> Result<Covered, Fault>
     ensures forced { OnErr result ((redo.old.seen.durable < lsn) × (redo.new.seen.durable ≡ redo.old.seen.durable)) }
     ensures later { IsLater redo.old.seen redo.new.seen }
     ensures opening { redo.new.opening ≡ redo.old.opening }
-    ensures kept { IsKept redo.new.seen (R.told redo.new.disk) }
+    ensures kept { IsKept redo.new.seen (R.seen redo.new.disk).told }
 {
     match redo.cover(lsn) {
         Ok(covered) => Ok(covered),
@@ -102,7 +102,7 @@ pub(crate) fn write_page<D: PageDisk, R: RedoDisk>(
     ensures buffer { vec_len buffer.new ≡ vec_len buffer.old }
     ensures later { IsLater redo.old.seen redo.new.seen }
     ensures opening { redo.new.opening ≡ redo.old.opening }
-    ensures kept { IsKept redo.new.seen (R.told redo.new.disk) }
+    ensures kept { IsKept redo.new.seen (R.seen redo.new.disk).told }
 {
     let covered = match cover(redo, image.lsn()) {
         Ok(covered) => covered,
@@ -120,7 +120,7 @@ pub(crate) fn cover_all<R: RedoDisk>(redo: &mut Redo<R>) -> Result<(), WriteErr>
     ensures fault { (first last : ℕ) → IfErr result (λ e. IsWriteFault first last redo.old.seen.faults redo.new.seen.faults e) }
     ensures later { IsLater redo.old.seen redo.new.seen }
     ensures opening { redo.new.opening ≡ redo.old.opening }
-    ensures kept { IsKept redo.new.seen (R.told redo.new.disk) }
+    ensures kept { IsKept redo.new.seen (R.seen redo.new.disk).told }
 {
     let end = redo.end();
     match cover(redo, end) {

@@ -1,39 +1,22 @@
-//! What a desk is made of at the start, and small steps on its parts.
-ghost use Rattle.std.specs.Prelude.{◌≡◌, ◌<◌, ◌≤◌, ◌+◌, ◌^◌, ◌++◌, ◌∷◌, [], OnOk, OnErr, IfOk, IfErr, IfSome, vec_len, vec_capacity, length};
-ghost use Rattle.page_ids.specs.Chunks.{rising};
+//! Small steps on the parts of a desk: a put's record is drafted, a page is read in.
+ghost use Rattle.std.specs.Prelude.{◌≡◌, ◌<◌, ◌≤◌, ◌^◌, OnOk, OnErr, IfOk, IfErr, IfSome, vec_len, length};
 ghost use Rattle.page_ids.specs.Faults.{IsCounted};
 ghost use Rattle.page_ids.specs.Layout.{IsPage};
 ghost use Rattle.page_disk.specs.Disks.{IsInside, IsSameDisk};
-ghost use Rattle.std.specs.VecDeque.{deque_len, deque_capacity};
 ghost use Rattle.redo_mark.specs.Records.{head_of};
 ghost use Rattle.desk.specs.Logged.{put_change};
 ghost use Rattle.desk.specs.Reads.{IsReadRefusal};
 
-use flush_list::Flush;
 use page_disk::PageDisk;
 use page_ids::{BadPage, Bytes, Failed, Image, OutOfMemory, PageId, decode};
 use redo_mark::{Change, ChangeKind, Draft};
 use std::alloc::Global;
-use std::collections::VecDeque;
 
 /// Why a page was not read in.
 #[derive(Clone, Copy, Debug)]
 pub(crate) enum ReadErr {
     DiskFault { before: u64, after: u64 },
     BadPage(BadPage),
-}
-
-/// Appends where there is room.
-pub(crate) fn push_kept<T: Drop>(items: &mut Vec<T>, item: T)
-    requires { vec_len items.old < vec_capacity items.old }
-    ensures items { items.new.items ≡ items.old.items ++ item ∷ [] }
-    ensures len { vec_len items.new ≡ vec_len items.old + 1 }
-    ensures room { vec_capacity items.old ≤ vec_capacity items.new }
-{
-    match items.push(item) {
-        Ok(()) => (),
-        Err(_) => unreachable!(),
-    }
 }
 
 /// The draft of a put's record, and its bytes.
@@ -96,25 +79,4 @@ pub(crate) fn read_page<D: PageDisk>(
         Ok(()) => Ok(()),
         Err(bad) => Err(ReadErr::BadPage(bad)),
     }
-}
-
-/// The frames' numbers, rising.
-pub(crate) fn free_frames(alloc: Global, frames: u32) -> Result<VecDeque<u32>, OutOfMemory>
-    ensures items { IfOk result (λ free. free.items ≡ rising 0 frames) }
-    ensures room { IfOk result (λ free. frames ≤ deque_capacity free) }
-{
-    let mut free = VecDeque::with_capacity(alloc, frames as usize)?;
-    for frame in 0..frames {
-        free.push_back_reserved(frame);
-    }
-    Ok(free)
-}
-
-/// The flush list of no dirty page, with room for all frames.
-pub(crate) fn empty_flush(alloc: Global, frames: u32) -> Result<Flush, OutOfMemory>
-    ensures { IfOk result (λ flush. flush ≡ record { listed = []; room = frames }) }
-{
-    let mut flush = Flush::new(alloc);
-    flush.grow(frames)?;
-    Ok(flush)
 }

@@ -1,20 +1,20 @@
 //! The put: bytes of a resident page are changed, and the change is logged first.
-ghost use Rattle.std.specs.Prelude.{◌≡◌, ◌<◌, ◌≤◌, ◌+◌, ◌^◌, OnOk, OnErr, IfOk, IfErr, IfSome, IsSome, IsErr, length};
-ghost use Rattle.page_ids.specs.Content.{IsRange};
-ghost use Rattle.page_ids.specs.Size.{page_bytes};
+ghost use Rattle.std.specs.Prelude.{◌≡◌, ◌<◌, ◌≤◌, ◌+◌, ◌^◌, OnOk, IfSome, length};
 ghost use Rattle.trail.specs.Trails.{mark};
-ghost use Rattle.trail.specs.History.{home, change};
-ghost use Rattle.trail.specs.Calls.{newest_fix};
+ghost use Rattle.trail.specs.History.{change};
 ghost use Rattle.trail.specs.Dirt.{log_end};
-ghost use Rattle.redo_mark.specs.Logs.{IsLater};
 ghost use Rattle.frame_words.specs.Conditions.{IsLatched, MayLay};
 ghost use Rattle.frame_words.specs.Rows.{laid_row, stamped_row, unlatched_row};
 ghost use Rattle.frame_words.specs.Seen.{row_at, with_row};
+ghost use Rattle.desk.specs.Answers.{IsPutAsked, Puts};
 ghost use Rattle.desk.specs.Base.{Opened};
 ghost use Rattle.desk.specs.Behind.{IsBehind};
-ghost use Rattle.desk.specs.Changes.{IsPutBy, IsPutRefusal};
-ghost use Rattle.desk.specs.Logged.{IsLogged};
-ghost use Rattle.desk.specs.Tied.{AreTied, AreAlone, HasTurn, IsOwn};
+ghost use Rattle.desk.specs.Changes.{IsPutBy};
+ghost use Rattle.desk.specs.Logged.{put_change};
+ghost use Rattle.desk.specs.Moments.{LogSeen, moment, moment_of, HasPlaces, IsAtRest, IsReady, Keeps};
+ghost use Rattle.desk.specs.Tied.{AreAlone, HasTurn};
+ghost use Rattle.redo_mark.specs.Logs.{Holds};
+ghost use Rattle.redo_mark.specs.Records.{record_of};
 
 use crate::calls::{Caller, PutDone, PutErr};
 use crate::desk::{Desk, take_image};
@@ -56,19 +56,16 @@ impl<D: PageDisk> Desk<D> {
         bytes: Bytes,
         span: Span,
     ) -> PutDone
-        requires places { self.old.state.config.first + length self.old.state.history + 1 < 2 ^ 48 }
-        requires room { 0 < self.old.room }
-        requires tied { AreTied D.seen (F.seen frames.old) self.old.state }
+        requires entries { HasPlaces 1 self.old }
+        requires rest { IsAtRest D.seen self.old.state (F.seen frames.old) }
         requires alone { AreAlone (F.seen frames.old) }
         requires turn { HasTurn (F.seen frames.old) by }
-        requires own { IsOwn (F.seen frames.old) self.old.state page }
-        requires open { IfSome (F.seen frames.old).opened (λ opened. IsSome (newest_fix opened page)) }
-        requires resident { IsSome (home self.old.state.history page) }
-        requires range { IsRange (page_bytes self.old.state.config.page) at (length bytes) }
+        requires asked { IsPutAsked (F.seen frames.old) self.old.state page at (length bytes) }
         requires span { (log_end self.old.state.history ≤ span.start) × (span.end ≡ span.start + 21 + length bytes) }
+        ensures keeps { (l : LogSeen) → Holds l.seen (record_of (put_change page at bytes) span.start) span.start → span.end ≤ l.seen.end
+            → Keeps D.seen 1 (moment self.old.state (F.seen frames.old) l) (moment self.new.state (F.seen frames.new) l) }
         ensures done { IsPutBy self.old.state self.new.state (F.seen frames.old).rows (F.seen frames.new).rows by page at bytes result }
         ensures lsn { result.lsn ≡ span.end }
-        ensures tied { AreTied D.seen (F.seen frames.new) self.new.state }
         ensures behind { (o : Opened) → IsBehind D.seen o self.old.state (F.seen frames.old)
             → IsBehind D.seen o self.new.state (F.seen frames.new) }
     {
@@ -108,28 +105,15 @@ impl<D: PageDisk> Desk<D> {
         bytes: &[u8],
     ) -> Result<PutDone, PutErr>
         requires places { self.old.state.config.first + length self.old.state.history + 1 < 2 ^ 48 }
-        requires tied { AreTied D.seen (F.seen frames.old) self.old.state }
+        requires ready { IsReady D.seen (moment_of F.seen R.seen self.old frames.old redo.old) by }
         requires alone { AreAlone (F.seen frames.old) }
-        requires turn { HasTurn (F.seen frames.old) by }
-        requires own { IsOwn (F.seen frames.old) self.old.state page }
-        requires open { IfSome (F.seen frames.old).opened (λ opened. IsSome (newest_fix opened page)) }
-        requires resident { IsSome (home self.old.state.history page) }
-        requires range { IsRange (page_bytes self.old.state.config.page) at (length bytes.now) }
-        requires known { log_end self.old.state.history ≤ redo.old.seen.end }
-        ensures done { IfOk result (λ d. IsPutBy self.old.state self.new.state (F.seen frames.old).rows (F.seen frames.new).rows by page at bytes.now d) }
-        ensures span { IfOk result (λ d. (redo.old.seen.end + 21 + length bytes.now ≤ d.lsn) × (d.lsn ≤ redo.new.seen.end)) }
-        ensures refused { IfErr result (λ e. IsPutRefusal self.old.state self.new.state by page at bytes.now
-            redo.old.seen.end redo.new.seen.end e) }
-        ensures unmoved { OnErr result ((F.seen frames.new).rows ≡ (F.seen frames.old).rows) }
-        ensures full { 2 ^ 63 < redo.old.seen.end + 21 + length bytes.now → IsErr result }
-        ensures tied { AreTied D.seen (F.seen frames.new) self.new.state }
-        ensures logged { IsLogged redo.old.seen self.old.state.history → IsLogged redo.new.seen self.new.state.history }
-        ensures known { log_end self.new.state.history ≤ redo.new.seen.end }
-        ensures later { IsLater redo.old.seen redo.new.seen }
-        ensures log { (redo.new.disk ≡ redo.old.disk) × (redo.new.opening ≡ redo.old.opening) }
-        ensures unlogged { OnErr result (redo.new ≡ redo.old) }
-        ensures behind { (o : Opened) → IsBehind D.seen o self.old.state (F.seen frames.old)
-            → IsBehind D.seen o self.new.state (F.seen frames.new) }
+        requires asked { IsPutAsked (F.seen frames.old) self.old.state page at (length bytes.now) }
+        ensures keeps { Keeps D.seen 1
+            (moment_of F.seen R.seen self.old frames.old redo.old)
+            (moment_of F.seen R.seen self.new frames.new redo.new) }
+        ensures answers { Puts D.seen
+            (moment_of F.seen R.seen self.old frames.old redo.old)
+            (moment_of F.seen R.seen self.new frames.new redo.new) by page at bytes.now result }
     {
         let alloc = self.lists.allocator();
         if self.room_for_put().is_err() {

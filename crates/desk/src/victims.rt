@@ -1,31 +1,32 @@
 //! How a frame is had for a page that is not resident: a free one, or that of a victim (buf0lru's `buf_LRU_get_free_block`).
-ghost use Rattle.std.specs.Prelude.{List, ◌≡◌, ◌<◌, ◌≤◌, ◌+◌, ◌^◌, ◌⊎◌, ◌++◌, [], ◌∷◌, ℕ, true, false, Some, None, Option, OnOk, OnErr, IfOk, IfErr, IfSome, IfNone, IsSome, MatchResult, Contains, IsPermutation, length, filter, slice_set, ◌⊎◌};
+ghost use Rattle.std.specs.Prelude.{List, ◌≡◌, ◌<◌, ◌≤◌, ◌+◌, ◌^◌, ◌⊎◌, ◌++◌, [], ◌∷◌, true, false, Some, None, Option, OnOk, OnErr, IfOk, IfErr, IfSome, IfNone, MatchResult, Contains, IsPermutation, length, filter, slice_set, ◌⊎◌};
 ghost use Rattle.std.specs.List.Sorted.{IsNonDecreasingBy};
 ghost use Rattle.page_ids.specs.Content.{Content};
 ghost use Rattle.page_ids.specs.FrameWord.{fixes_of};
 ghost use Rattle.page_ids.specs.Same.{same_page};
 ghost use Rattle.page_ids.specs.declared.ids.PageId.{PageId};
 ghost use Rattle.page_disk.specs.Disks.{IsOtherwiseSame, Fades};
-ghost use Rattle.redo_mark.specs.Logs.{Seen};
 ghost use Rattle.trail.specs.History.{home};
 ghost use Rattle.trail.specs.Book.{book, frame_in_turn};
-ghost use Rattle.trail.specs.Dirt.{dirty, dirt_of, is_dirty, log_end};
+ghost use Rattle.trail.specs.Dirt.{dirty, dirt_of, is_dirty};
 ghost use Rattle.trail.specs.Victim.{walk};
 ghost use Rattle.trail.specs.declared.event.Dirty.{Dirty};
 ghost use Rattle.trail.specs.declared.event.Entry.{Entry};
 ghost use Rattle.frame_words.specs.Conditions.{IsFree, IsSteady, AreFound};
 ghost use Rattle.frame_words.specs.Rows.{published_row};
 ghost use Rattle.frame_words.specs.Seen.{FramesSeen, row_at, Finds, KeepsRoom};
+ghost use Rattle.desk.specs.Answers.{MayTake, HasFrameFor, IsOccupied, Unhad};
 ghost use Rattle.desk.specs.Base.{Opened};
 ghost use Rattle.desk.specs.Behind.{IsBehind};
 ghost use Rattle.desk.specs.Changes.{IsImageTold, IsWriteFault, IsForced, LeavesDesk};
-ghost use Rattle.desk.specs.Claimed.{HasLooked, IsTaken, ArePassedBy, StopsAt, AreTiedBut, KeepsLog, Leaves, HasFrame, test_of, part_of, cause_of, refusal_of};
-ghost use Rattle.desk.specs.Ledger.{IsVacant};
-ghost use Rattle.desk.specs.Logged.{IsLogged, AreUpTo};
+ghost use Rattle.instance_lists.specs.Walk.{test_of, part_of};
+ghost use Rattle.desk.specs.Claimed.{HasLooked, IsTaken, ArePassedBy, StopsAt, AreTiedBut, KeepsLog, cause_of, refusal_of};
+ghost use Rattle.instance_lists.specs.Ledger.{IsVacant};
+ghost use Rattle.desk.specs.Moments.{moment_of, HasPlaces, IsReady, Keeps, LogSeen, moment, IsAtRest};
 ghost use Rattle.desk.specs.Steps.{IsAppended, IsRefused};
 ghost use Rattle.desk.specs.Tied.{AreTied, HasTurn, IsOwn};
-ghost use Rattle.desk.specs.Victims.{AreSettled, IsCleanedFirst, IsHad, IsAhead, MustCover, IsUnhad, IsUnforced, AsksFor, LeavesTurn};
-ghost use Rattle.desk.specs.Walk.{AreOrderly};
+ghost use Rattle.desk.specs.Victims.{IsCleanedFirst, IsAhead, AsksFor, LeavesTurn};
+ghost use Rattle.instance_lists.specs.Walk.{AreOrderly};
 
 use crate::calls::{Caller, FrameErr};
 use crate::desk::Desk;
@@ -68,7 +69,7 @@ impl<D: PageDisk> Desk<D> {
         ensures fixes { KeepsRoom (F.room frames.old) (F.room frames.new) }
     {
         let page = self.lists.page_in(frame);
-        if self.lists.is_dirty(page) != soiled {
+        if self.lists.is_dirty_in(frame) != soiled {
             return Ok(None);
         }
         match claim_at(frames, frame) {
@@ -103,7 +104,7 @@ impl<D: PageDisk> Desk<D> {
             IsTaken (F.seen frames.old) (F.seen frames.new) self.now.state.history v.page v.frame v.clock)) }
         ensures fixes { KeepsRoom (F.room frames.old) (F.room frames.new) }
     {
-        let mut at = self.lists.walk(None);
+        let mut at = self.lists.first_tried(soiled);
         while let Some(frame) = at {
             match self.try_frame(frames, passed, frame, soiled) {
                 Ok(None) => (),
@@ -166,7 +167,7 @@ impl<D: PageDisk> Desk<D> {
         ensures covered { (redo.new ≡ redo.old) ⊎ IsAhead self.old.state.history victim.page redo.old.seen.durable }
         ensures forced { IfErr result (λ e. IsForced self.old.state.disk self.new.state.disk
             (IsAhead self.old.state.history victim.page redo.old.seen.durable) e) }
-        ensures log { KeepsLog R.told redo.old redo.new self.old.state.history self.new.state.history }
+        ensures log { KeepsLog R.seen redo.old redo.new self.old.state.history self.new.state.history }
     {
         let Victim { page, frame, .. } = victim;
         let image = frames.lift(frame);
@@ -209,7 +210,7 @@ impl<D: PageDisk> Desk<D> {
         ensures room { self.old.room ≤ self.new.room + 1 }
         ensures desk { LeavesDesk D.seen self.old.state self.new.state }
         ensures others { (q : PageId) → same_page victim.page q ≡ false → (D.seen self.new.state.disk).told q ≡ (D.seen self.old.state.disk).told q }
-        ensures log { KeepsLog R.told redo.old redo.new self.old.state.history self.new.state.history }
+        ensures log { KeepsLog R.seen redo.old redo.new self.old.state.history self.new.state.history }
         ensures fixes { KeepsRoom (F.room frames.old) (F.room frames.new) }
         ensures behind { (o : Opened) → IsBehind D.seen o self.old.state (F.seen frames.old)
             → IsBehind D.seen o self.new.state (F.seen frames.new) }
@@ -306,33 +307,16 @@ impl<D: PageDisk> Desk<D> {
         call: Call,
         passed: Vec<(u32, Word)>,
     ) -> FrameErr
-        requires places { self.old.state.config.first + length self.old.state.history + 1 < 2 ^ 48 }
-        requires room { 0 < self.old.room }
-        requires tied { AreTied D.seen (F.seen frames.old) self.old.state }
-        requires turn { HasTurn (F.seen frames.old) by }
-        requires own { IsOwn (F.seen frames.old) self.old.state page }
-        requires asked { AsksFor page call }
-        requires few { IfSome (F.seen frames.old).opened (λ opened. length opened < 64) }
-        requires orderly { AreOrderly self.old.state.config self.old.state.history }
-        requires none_free { frame_in_turn (book self.old.state.config self.old.state.history) ≡ None }
-        requires full { (f : ℕ) → f < self.old.state.config.frames → (p : PageId) × (home self.old.state.history p ≡ Some f) }
-        requires absent { home self.old.state.history page ≡ None }
+        requires entries { HasPlaces 1 self.old }
+        requires rest { IsAtRest D.seen self.old.state (F.seen frames.old) }
+        requires asked { MayTake D.seen (F.seen frames.old) self.old.state by page }
+        requires for_page { AsksFor page call }
+        requires full { IsOccupied self.old.state }
         requires passed { ArePassedBy self.old.state.history (F.seen frames.old).rows (F.seen frames.old).found
             (walk self.old.state.config self.old.state.history) passed.items }
-        ensures refused { (disk_was disk_is durable log_was log_is : ℕ) → IsUnhad self.old.state self.new.state (F.seen frames.old).rows by page call
-            disk_was disk_is durable log_was log_is result }
-        ensures rows { (F.seen frames.new).rows ≡ (F.seen frames.old).rows }
-        ensures disk { self.new.state.disk ≡ self.old.state.disk }
-        ensures absent { home self.new.state.history page ≡ None }
-        ensures count { length self.new.state.history ≤ length self.old.state.history + 1 }
-        ensures logged { (log : Seen) → IsLogged log self.old.state.history → IsLogged log self.new.state.history }
-        ensures ends { log_end self.new.state.history ≡ log_end self.old.state.history }
-        ensures upto { (mark : ℕ) (h : List Entry) → AreUpTo mark h self.old.state.history → AreUpTo mark h self.new.state.history }
-        ensures tied { AreTied D.seen (F.seen frames.new) self.new.state }
-        ensures desk { LeavesDesk D.seen self.old.state self.new.state }
+        ensures keeps { (l : LogSeen) → Keeps D.seen 1 (moment self.old.state (F.seen frames.old) l) (moment self.new.state (F.seen frames.new) l) }
+        ensures answers { (l : LogSeen) → Unhad D.seen (moment self.old.state (F.seen frames.old) l) (moment self.new.state (F.seen frames.new) l) by page call result }
         ensures fixes { KeepsRoom (F.room frames.old) (F.room frames.new) }
-        ensures behind { (o : Opened) → IsBehind D.seen o self.old.state (F.seen frames.old)
-            → IsBehind D.seen o self.new.state (F.seen frames.new) }
     {
         let alloc = self.lists.allocator();
         let words = in_order(passed);
@@ -355,26 +339,18 @@ impl<D: PageDisk> Desk<D> {
         page: PageId,
         call: Call,
     ) -> Result<u32, FrameErr>
-        requires places { self.old.state.config.first + length self.old.state.history + 2 < 2 ^ 48 }
-        requires room { 2 ≤ self.old.room }
-        requires tied { AreTied D.seen (F.seen frames.old) self.old.state }
-        requires settled { AreSettled (F.seen frames.old).rows }
-        requires turn { HasTurn (F.seen frames.old) by }
-        requires own { IsOwn (F.seen frames.old) self.old.state page }
-        requires asked { AsksFor page call }
-        requires few { IfSome (F.seen frames.old).opened (λ opened. length opened < 64) }
-        requires absent { home self.old.state.history page ≡ None }
-        requires known { log_end self.old.state.history ≤ redo.old.seen.end }
-        requires orderly { AreOrderly self.old.state.config self.old.state.history }
-        requires none_free { frame_in_turn (book self.old.state.config self.old.state.history) ≡ None }
-        requires full { (f : ℕ) → f < self.old.state.config.frames → (p : PageId) × (home self.old.state.history p ≡ Some f) }
-        ensures had { IfOk result (λ frame. HasFrame self.old self.new (F.seen frames.old) (F.seen frames.new) by frame) }
-        ensures refused { IfErr result (λ e. IsUnhad self.old.state self.new.state (F.seen frames.old).rows by page call
-            (D.seen self.old.state.disk).faults (D.seen self.new.state.disk).faults redo.old.seen.durable redo.old.seen.faults redo.new.seen.faults e) }
-        ensures unmoved { OnErr result ((F.seen frames.new).rows ≡ (F.seen frames.old).rows) }
-        ensures unforced { IfErr result (λ e. IsUnforced redo.old redo.new e) }
-        ensures leaves { Leaves D.seen R.told page self.old.state self.new.state
-            (F.seen frames.old) (F.seen frames.new) redo.old redo.new }
+        requires entries { HasPlaces 2 self.old }
+        requires ready { IsReady D.seen (moment_of F.seen R.seen self.old frames.old redo.old) by }
+        requires asked { MayTake D.seen (F.seen frames.old) self.old.state by page }
+        requires for_page { AsksFor page call }
+        requires full { IsOccupied self.old.state }
+        ensures keeps { Keeps D.seen 2
+            (moment_of F.seen R.seen self.old frames.old redo.old)
+            (moment_of F.seen R.seen self.new frames.new redo.new) }
+        ensures answers { HasFrameFor D.seen
+            (moment_of F.seen R.seen self.old frames.old redo.old)
+            (moment_of F.seen R.seen self.new frames.new redo.new) by page call result }
+        ensures room { OnOk result (self.old.room ≤ self.new.room + 2) }
         ensures fixes { KeepsRoom (F.room frames.old) (F.room frames.new) }
     {
         let mut passed = Vec::new(self.lists.allocator());
@@ -404,38 +380,18 @@ impl<D: PageDisk> Desk<D> {
         page: PageId,
         call: Call,
     ) -> Result<u32, FrameErr>
-        requires places { self.old.state.config.first + length self.old.state.history + 2 < 2 ^ 48 }
-        requires room { 2 ≤ self.old.room }
-        requires tied { AreTied D.seen (F.seen frames.old) self.old.state }
-        requires settled { AreSettled (F.seen frames.old).rows }
-        requires turn { HasTurn (F.seen frames.old) by }
-        requires own { IsOwn (F.seen frames.old) self.old.state page }
-        requires asked { AsksFor page call }
-        requires few { IfSome (F.seen frames.old).opened (λ opened. length opened < 64) }
-        requires absent { home self.old.state.history page ≡ None }
-        requires known { log_end self.old.state.history ≤ redo.old.seen.end }
-        ensures had { IfOk result (λ frame. IsHad self.old.state self.new.state (F.seen frames.old).rows (F.seen frames.new).rows by frame) }
-        ensures next { IfOk result (λ frame. frame_in_turn (book self.new.state.config self.new.state.history) ≡ Some frame) }
-        ensures below { IfOk result (λ frame. frame < self.new.state.config.frames) }
-        ensures vacant { IfOk result (λ frame. IsVacant self.new.state.history frame) }
-        ensures absent { home self.new.state.history page ≡ None }
-        ensures turn { IfOk result (λ frame. LeavesTurn (F.seen frames.old) (F.seen frames.new)) }
-        ensures room { IfOk result (λ frame. self.old.room ≤ self.new.room + 2) }
-        ensures count { length self.new.state.history ≤ length self.old.state.history + 2 }
-        ensures refused { IfErr result (λ e. IsUnhad self.old.state self.new.state (F.seen frames.old).rows by page call
-            (D.seen self.old.state.disk).faults (D.seen self.new.state.disk).faults redo.old.seen.durable redo.old.seen.faults redo.new.seen.faults e) }
-        ensures unmoved { OnErr result ((F.seen frames.new).rows ≡ (F.seen frames.old).rows) }
-        ensures free { IsSome (frame_in_turn (book self.old.state.config self.old.state.history)) → redo.new ≡ redo.old }
-        ensures covered { (redo.new ≡ redo.old) ⊎ MustCover self.old.state (F.seen frames.old).rows redo.old.seen.durable }
-        ensures unforced { IfErr result (λ e. IsUnforced redo.old redo.new e) }
-        ensures tied { AreTied D.seen (F.seen frames.new) self.new.state }
-        ensures settled { AreSettled (F.seen frames.new).rows }
-        ensures page_told { (D.seen self.new.state.disk).told page ≡ (D.seen self.old.state.disk).told page }
-        ensures desk { LeavesDesk D.seen self.old.state self.new.state }
-        ensures log { KeepsLog R.told redo.old redo.new self.old.state.history self.new.state.history }
+        requires entries { HasPlaces 2 self.old }
+        requires ready { IsReady D.seen (moment_of F.seen R.seen self.old frames.old redo.old) by }
+        requires asked { MayTake D.seen (F.seen frames.old) self.old.state by page }
+        requires for_page { AsksFor page call }
+        ensures keeps { Keeps D.seen 2
+            (moment_of F.seen R.seen self.old frames.old redo.old)
+            (moment_of F.seen R.seen self.new frames.new redo.new) }
+        ensures answers { HasFrameFor D.seen
+            (moment_of F.seen R.seen self.old frames.old redo.old)
+            (moment_of F.seen R.seen self.new frames.new redo.new) by page call result }
+        ensures room { OnOk result (self.old.room ≤ self.new.room + 2) }
         ensures fixes { KeepsRoom (F.room frames.old) (F.room frames.new) }
-        ensures behind { (o : Opened) → IsBehind D.seen o self.old.state (F.seen frames.old)
-            → IsBehind D.seen o self.new.state (F.seen frames.new) }
     {
         match self.lists.next_frame() {
             Some(frame) => Ok(frame),

@@ -1,7 +1,7 @@
 //! A desk on trial, with its disk, its log and its frames in memory.
 ghost use Rattle.std.specs.Prelude.{◌≡◌, ◌<◌, ◌≤◌, ◌+◌, [], ℕ, IfOk, IfSome, IsSome, IsTrue, length};
 ghost use Rattle.frame_words.specs.Plain.{seen_of, room_of};
-ghost use Rattle.desk.specs.Ledger.{IsOneChunk};
+ghost use Rattle.instance_lists.specs.Ledger.{IsOneChunk};
 ghost use Rattle.desk.specs.Steps.{row_in};
 ghost use Rattle.desk.specs.Tied.{AreAlone};
 ghost use Rattle.desk.specs.Victims.{AreSettled};

@@ -1,14 +1,11 @@
 -- Ids in their order.
-use Rattle.std.proofs.Common.{◌≡◌, ◌∙◌, ◌&&◌, ℕ, Bool, true, false, nat_eq, refl, sym, ap, arith}
-use Rattle.std.specs.Cmp.{IsTotalOrder, IsEquivalence, tied_then, unsigned_tied}
+use Rattle.std.proofs.Common.{◌≡◌, ◌∙◌, ◌&&◌, nat_eq, sym, ap}
+use Rattle.std.specs.Cmp.{IsEquivalence, tied_then, unsigned_tied}
 use Rattle.std.specs.Ordering.{eq_by_cmp, nat_cmp, is_eq}
-use Rattle.std.proofs.lemmas.Cmp.{on_total, then_total, nat_cmp_total, eq_by_cmp_equiv}
-use Rattle.std.proofs.lemmas.Bool.Decides.{nat_tests}
+use Rattle.std.proofs.lemmas.Cmp.{eq_by_cmp_equiv}
+use Rattle.page_ids.proofs.Basics.{pages_total}
 use Rattle.page_ids.specs.Same.{page_cmp, same_page}
 use Rattle.page_ids.specs.declared.ids.PageId.{PageId}
-
-pub pages_total : IsTotalOrder page_cmp
-pages_total = then_total (on_total (λ p. p.space) nat_cmp_total) (on_total (λ p. p.page) nat_cmp_total)
 
 -- pages tie just where they are the same
 pub pages_tie : (p q : PageId) → same_page p q ≡ eq_by_cmp page_cmp p q
@@ -24,16 +21,3 @@ pages_alike =
       symm = λ p q. pages_tie p q ∙ equal.symm p q ∙ sym (pages_tie q p);
       congr = λ p q r e. pages_tie p r ∙ equal.congr p q r (sym (pages_tie p q) ∙ e) ∙ sym (pages_tie q r);
     }
-
-both : (a b : Bool) → (a && b) ≡ true → (a ≡ true) × (b ≡ true)
-both true b h = (refl, h)
-both false b h = absurd (cc)
-
-number_is : (m n : ℕ) → nat_eq m n ≡ true → m ≡ n
-number_is m n h = grind (arith, nat_tests)
-
-pub one_page : (p q : PageId) → same_page p q ≡ true → p ≡ q
-one_page p q h =
-    let tests = both (nat_eq p.space q.space) (nat_eq p.page q.page) h in
-    let make = λ (s n : ℕ). let id : PageId = record { space = s; page = n } in id in
-    ap (λ s. make s p.page) (number_is p.space q.space tests.0) ∙ ap (λ n. make q.space n) (number_is p.page q.page tests.1)

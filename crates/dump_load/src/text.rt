@@ -1,5 +1,5 @@
 //! The text of a dump.
-ghost use Rattle.std.specs.Prelude.{◌≡◌, ◌<◌, ◌≤◌, ◌++◌, ◌∷◌, ◌==◌, ◌⊎◌, ℕ, List, [], false, length, OnOk, OnErr, IfOk, IfErr, MatchResult};
+ghost use Rattle.std.specs.Prelude.{◌≡◌, ◌<◌, ◌≤◌, ◌++◌, ◌∷◌, ◌==◌, ◌⊎◌, ℕ, List, [], false, length, take, OnOk, OnErr, IfOk, IfErr, MatchResult};
 ghost use Rattle.std.specs.List.{AllByRecursion};
 ghost use Rattle.page_ids.specs.declared.ids.PageId.{PageId};
 ghost use Rattle.dump_load.specs.declared.text.DumpErr.{DumpErr};
@@ -20,12 +20,14 @@ pub enum DumpErr {
     BadLine { line: u32 },
     /// The first line behind `MOST_IDS` ids, whatever it says: line 65537.
     TooMany { line: u32 },
+    /// There is no memory for the ids.
     OutOfMemory,
 }
 
 /// Appends an id's line, without its newline.
 fn push_id(id: PageId, out: &mut Vec<u8>) -> Result<(), AllocError>
     ensures text { OnOk result (out.new.items ≡ out.old.items ++ id_line id) }
+    ensures err { OnErr result (out.new.items ≡ out.old.items) }
 {
     let alloc = *out.allocator();
     let PageId { space, page } = id;
@@ -33,9 +35,10 @@ fn push_id(id: PageId, out: &mut Vec<u8>) -> Result<(), AllocError>
     out.extend_from_slice(text.as_bytes())
 }
 
-/// Appends the ids' lines, each ended by a newline.
+/// Appends the ids' lines, each ended by a newline. Where there is no memory for all, it may leave some.
 fn push_ids(ids: &[PageId], out: &mut Vec<u8>) -> Result<(), AllocError>
     ensures text { OnOk result (out.new.items ≡ out.old.items ++ dump_text ids.now) }
+    ensures err { OnErr result (take (length out.old.items) out.new.items ≡ out.old.items) }
 {
     for id in ids {
         push_id(*id, out)?;
@@ -49,11 +52,14 @@ pub fn dump_text(ids: &[PageId], out: &mut Vec<u8>) -> Result<(), OutOfMemory>
     ensures text { OnOk result (out.new.items ≡ out.old.items ++ dump_text ids.now) }
     ensures err { OnErr result (out.new.items ≡ out.old.items) }
 {
-    let alloc = *out.allocator();
-    let mut text = Vec::new(alloc);
-    push_ids(ids, &mut text)?;
-    out.extend_from_slice(text.as_slice())?;
-    Ok(())
+    let len = out.len();
+    match push_ids(ids, out) {
+        Ok(()) => Ok(()),
+        Err(_) => {
+            out.truncate(len);
+            Err(OutOfMemory)
+        }
+    }
 }
 
 /// The id that a line spells.

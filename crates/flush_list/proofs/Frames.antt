@@ -1,6 +1,6 @@
 -- The list of nodes over the list of frames.
 use Rattle.std.proofs.Common.{◌≡◌, ◌∙◌, ◌+◌, ◌<◌, ◌≤◌, ℕ, suc, cond, not, List, [], ◌∷◌, ◌++◌, inl, inr, length, get_or, set, Option, Some, None, refl, sym, ap, subst, append_assoc, arith}
-use Rattle.std.specs.Prelude.{map, All, IfSome}
+use Rattle.std.specs.Prelude.{map, IfSome}
 use Rattle.std.specs.Option.{option_map}
 use Rattle.std.proofs.lemmas.List.{length-map, length-append, map-append, get_or-set_same, get_or-set_other}
 use Rattle.std.proofs.lemmas.Bool.{cases_eq, cases_lt, ne_eqb, eq-eqb}
@@ -141,14 +141,6 @@ place_is os f [] back none = place_here f (node_of os f) (map (node_of os) back)
 place_is os f (x ∷ xs) back none = elim (cases_eq x f) [
   | inl e ↦ absurd (omega (arith, none, times_at x xs, ap (λ i. times i (x ∷ xs)) e))
   | inr ne ↦ place_next f (node_of os x) (map (node_of os) (xs ++ f ∷ back)) ne ∙ ap {B = ℕ} (λ k. suc k) (place_is os f xs back (omega (arith, none, times_past f x xs ne)))
-]
-
--- a frame that is listed is below the room
-pub below : (os : List ℕ) (room f : ℕ) (xs : List ℕ) → All (λ x. x.frame < room) (map (node_of os) xs) → 1 ≤ times f xs → f < room
-below os room f [] all there = absurd (omega arith)
-below os room f (x ∷ xs) all there = elim (cases_eq x f) [
-  | inl e ↦ subst (λ i. i < room) e (all 0 (node_of os x) (omega arith))
-  | inr ne ↦ below os room f xs (λ k d l. all (suc k) d (omega arith)) (omega (arith, there, times_past f x xs ne))
 ]
 
 -- no frame at the tail: no LSN there

@@ -1,37 +1,37 @@
--- The list stays in order, and there is room for a new frame.
-use Rattle.std.proofs.Common.{◌≡◌, ◌≢◌, ◌∙◌, ◌<◌, ◌≤◌, ◌==◌, ℕ, suc, zero, not, List, [], ◌∷◌, inl, inr, length, get_or, Some, None, refl, sym, ap, subst, eqb, true, arith}
+-- The list stays in order.
+use Rattle.std.proofs.Common.{◌≡◌, ◌≢◌, ◌∙◌, ◌<◌, ◌≤◌, ◌==◌, ℕ, suc, zero, not, List, [], ◌∷◌, inl, inr, length, get_or, Some, None, refl, sym, ap, subst, arith}
 use Rattle.std.specs.Prelude.{map, All, AllPairs}
-use Rattle.std.specs.List.{list_any}
-use Rattle.std.proofs.lemmas.Bool.{eqb-true, cases_eq, cases_lt, or_cases, false≢true}
-use Rattle.std.proofs.lemmas.Bool.Decides.{Decides-eqb}
+use Rattle.std.proofs.lemmas.Bool.{cases_lt}
 use Rattle.std.proofs.lemmas.List.{length-map, get_or-map, get_or_default}
-use Rattle.std.proofs.lemmas.List.Elements.{All-cons, All-map, All-filter}
+use Rattle.std.proofs.lemmas.List.Elements.{All-cons}
 use Rattle.std.proofs.lemmas.List.Kept.{AllPairs-cons, AllPairs-filter}
-use Rattle.std.proofs.lemmas.List.Sums.{length-filter, count_by-le-length}
-use Rattle.std.proofs.lemmas.Map.Made.{IsDistinct-from_AllPairs}
-use Rattle.std.proofs.lemmas.Map.Steps.{length-le_from_distinct_below}
-use Rattle.flush_list.specs.View.{Node, View, IsNew, IsNewest, IsInOrder, without, moved, relocated, tail_of}
-use Rattle.flush_list.proofs.Places.{AreApart, away_from_place, moved_here, moved_else, moved_oldest, last_at}
+use Rattle.link_lists.specs.Grid.{times}
+use Rattle.link_lists.proofs.Times.{times-cons, times_at}
+use Rattle.flush_list.specs.View.{Node, IsNewest, without, moved, relocated, tail_of}
+use Rattle.flush_list.specs.Inside.{node_of}
+use Rattle.flush_list.proofs.Places.{moved_oldest, last_at}
 
-below_from_any : (room q : ℕ) (frames : List ℕ) → All (λ f. f < room) frames → list_any (eqb q) frames ≡ true → q < room
-below_from_any room q [] h a = absurd (false≢true a)
-below_from_any room q (f ∷ frames) h a = elim (or_cases (eqb q f) (list_any (eqb q) frames) a) [
-  | inl t ↦ subst (λ i. i < room) (sym (eqb-true q f t)) (h 0 0 (omega arith))
-  | inr t ↦ below_from_any room q frames (λ i d l. h (suc i) d (omega arith)) t
-]
+-- frames that are listed once stand apart, and those below a room are so as nodes
+away_all : (os : List ℕ) (f : ℕ) (xs : List ℕ) → times f xs ≡ 0 → All (λ x. f ≢ x.frame) (map (node_of os) xs)
+away_all os f [] none = λ k d l. absurd (omega arith)
+away_all os f (x ∷ xs) none =
+    All-cons (λ y. f ≢ y.frame) (node_of os x) (map (node_of os) xs) (λ e. absurd (omega (arith, none, times_at x xs, ap (λ i. times i (x ∷ xs)) e)))
+    (away_all os f xs (omega (arith, none, times-cons f x xs)))
 
--- frames that stand apart and below the room are at most as many
-few_apart : (xs : List Node) (room : ℕ) → AreApart xs → All (λ x. x.frame < room) xs → length xs ≤ room
-few_apart xs room apart below =
-    let frames = map (λ (x : Node). x.frame) xs in
-    let blank : Node = record { frame = 0; oldest = 0 } in
-    let len = length-map xs (λ (x : Node). x.frame) in
-    let at : (k : ℕ) (d : ℕ) → k < length xs → get_or frames k d ≡ (get_or xs k blank).frame = λ k d l. get_or-map (λ (x : Node). x.frame) xs k blank d l in
-    let differ : AllPairs (λ x y. x ≢ y) frames = λ i j d less l e.
-    apart i j blank less (omega (arith, l, len)) (sym (at i d (omega (arith, less, l, len))) ∙ e ∙ at j d (omega (arith, l, len))) in
-    let distinct = IsDistinct-from_AllPairs Decides-eqb frames differ in
-    let all = All-map (λ f. f < room) (λ (x : Node). x.frame) xs below in
-    omega (arith, len, length-le_from_distinct_below frames room distinct (λ q a. below_from_any room q frames all a))
+pub apart_all : (os xs : List ℕ) → ((x : ℕ) → times x xs ≤ 1) → AllPairs (λ x y. x.frame ≢ y.frame) (map (node_of os) xs)
+apart_all os [] once = λ i j d less l. absurd (omega arith)
+apart_all os (x ∷ xs) once =
+    AllPairs-cons (λ x y. x.frame ≢ y.frame) (node_of os x) (map (node_of os) xs) (away_all os x xs (omega (arith, once x, times_at x xs)))
+    (apart_all os xs (λ y. omega (arith, once y, times-cons y x xs)))
+
+pub below_all : (os : List ℕ) (room : ℕ) (xs : List ℕ) → ((f : ℕ) → 1 ≤ times f xs → f < room) → All (λ x. x.frame < room) (map (node_of os) xs)
+below_all os room [] below = λ k d l. absurd (omega arith)
+below_all os room (x ∷ xs) below =
+    All-cons (λ y. y.frame < room) (node_of os x) (map (node_of os) xs) (below x (omega (arith, times_at x xs)))
+    (below_all os room xs (λ f there. below f (omega (arith, there, times-cons f x xs))))
+
+abbrev IsFalling : List Node → Type 0
+IsFalling xs = AllPairs (λ x y. y.oldest ≤ x.oldest) xs
 
 newest_of_all : (oldest : ℕ) (xs : List Node) → AllPairs (λ x y. y.oldest ≤ x.oldest) xs → IsNewest oldest xs → All (λ x. x.oldest ≤ oldest) xs
 newest_of_all oldest [] falling newest = λ k d l. absurd (omega arith)
@@ -41,75 +41,20 @@ newest_of_all oldest (x ∷ xs) falling newest = λ k d l. at k d l
     at zero d l = newest
     at (suc k) d l = omega (arith, newest, falling 0 (suc k) d (omega arith) l)
 
-pub order-add : (v : View) (frame oldest : ℕ) → IsInOrder v → IsNew v frame → IsNewest oldest v.listed
-    → IsInOrder (record v { listed = record { frame = frame; oldest = oldest } ∷ v.listed })
-order-add v frame oldest h new newest =
-    let node : Node = record { frame = frame; oldest = oldest } in
-    let away = away_from_place v frame new.away in
-    let once = AllPairs-cons (λ x y. x.frame ≢ y.frame) node v.listed (λ k d l e. away k d l (sym e)) h.once in
-    let below = All-cons (λ x. x.frame < v.room) node v.listed new.room h.below in record {
-      once = once;
-      below = below;
-      falling = AllPairs-cons (λ x y. y.oldest ≤ x.oldest) node v.listed (newest_of_all oldest v.listed h.falling newest) h.falling;
-      few = few_apart (node ∷ v.listed) v.room once below;
-    }
+pub falling-add : (frame oldest : ℕ) (xs : List Node) → IsFalling xs → IsNewest oldest xs → IsFalling (record { frame = frame; oldest = oldest } ∷ xs)
+falling-add frame oldest xs falling newest =
+    AllPairs-cons (λ x y. y.oldest ≤ x.oldest) (record { frame = frame; oldest = oldest }) xs (newest_of_all oldest xs falling newest) falling
 
-pub order-remove : (v : View) (frame : ℕ) → IsInOrder v → IsInOrder (record v { listed = without frame v.listed })
-order-remove v frame h =
-    let test = λ (x : Node). not (x.frame == frame) in record {
-      once = AllPairs-filter (λ x y. x.frame ≢ y.frame) test v.listed h.once;
-      below = All-filter test (λ x. x.frame < v.room) v.listed h.below;
-      falling = AllPairs-filter (λ x y. y.oldest ≤ x.oldest) test v.listed h.falling;
-      few = omega (arith, length-filter test v.listed, count_by-le-length test v.listed, h.few);
-    }
+pub falling-remove : (frame : ℕ) (xs : List Node) → IsFalling xs → IsFalling (without frame xs)
+falling-remove frame xs falling = AllPairs-filter (λ x y. y.oldest ≤ x.oldest) (λ (x : Node). not (x.frame == frame)) xs falling
 
--- two nodes stay apart where one of them moves to a frame that neither has
-apart_moved : (old new : ℕ) (x y : Node) → x.frame ≢ y.frame → x.frame ≢ new → y.frame ≢ new → (moved old new x).frame ≢ (moved old new y).frame
-apart_moved old new x y differ x_new y_new = λ e. elim (cases_eq x.frame old) [
-  | inl here ↦ elim (cases_eq y.frame old) [
-    | inl same ↦ differ (here ∙ sym same)
-    | inr ne ↦ y_new (sym (sym (ap (λ (z : Node). z.frame) (moved_here old new x here)) ∙ e ∙ ap (λ (z : Node). z.frame) (moved_else old new y ne)))
-  ]
-  | inr other ↦ elim (cases_eq y.frame old) [
-    | inl here ↦ x_new (sym (ap (λ (z : Node). z.frame) (moved_else old new x other)) ∙ e ∙ ap (λ (z : Node). z.frame) (moved_here old new y here))
-    | inr ne ↦ differ (sym (ap (λ (z : Node). z.frame) (moved_else old new x other)) ∙ e ∙ ap (λ (z : Node). z.frame) (moved_else old new y ne))
-  ]
-]
-
-below_moved : (old new room : ℕ) (x : Node) → new < room → x.frame < room → (moved old new x).frame < room
-below_moved old new room x fits below = elim (cases_eq x.frame old) [
-  | inl here ↦ omega (arith, fits, ap (λ (z : Node). z.frame) (moved_here old new x here))
-  | inr ne ↦ omega (arith, below, ap (λ (z : Node). z.frame) (moved_else old new x ne))
-]
-
-pub order-relocate : (v : View) (old new : ℕ) → IsInOrder v → IsNew v new → IsInOrder (record v { listed = relocated old new v.listed })
-order-relocate v old new h fresh =
-    let xs = v.listed in
-    let away = away_from_place v new fresh.away in
-    let len = length-map xs (moved old new) in
-    let at : (k : ℕ) (d : Node) → k < length xs → get_or (relocated old new xs) k d ≡ moved old new (get_or xs k d) = λ k d l. get_or-map (moved old new) xs k d d l in record {
-      once = λ i j d less l e.
-          let second : j < length xs = omega (arith, l, len) in
-          let first : i < length xs = omega (arith, less, second) in
-          apart_moved old new (get_or xs i d) (get_or xs j d) (h.once i j d less second) (away i d first) (away j d second)
-          (sym (ap (λ (z : Node). z.frame) (at i d first)) ∙ e ∙ ap (λ (z : Node). z.frame) (at j d second));
-      below = All-map (λ x. x.frame < v.room) (moved old new) xs (λ k d l. below_moved old new v.room (get_or xs k d) fresh.room (h.below k d l));
-      falling = λ i j d less l.
-          let second : j < length xs = omega (arith, l, len) in
-          let first : i < length xs = omega (arith, less, second) in
-          let one = ap (λ (z : Node). z.oldest) (at i d first) ∙ moved_oldest old new (get_or xs i d) in
-          let two = ap (λ (z : Node). z.oldest) (at j d second) ∙ moved_oldest old new (get_or xs j d) in
-          omega (arith, one, two, h.falling i j d less second);
-      few = omega (arith, len, h.few);
-    }
-
-pub order-grow : (v : View) (frames : ℕ) → v.room ≤ frames → IsInOrder v → IsInOrder (record v { room = frames })
-order-grow v frames more h = record {
-  once = h.once;
-  below = λ k d l. omega (arith, more, h.below k d l);
-  falling = h.falling;
-  few = omega (arith, more, h.few);
-}
+pub falling-relocate : (old new : ℕ) (xs : List Node) → IsFalling xs → IsFalling (relocated old new xs)
+falling-relocate old new xs falling = λ i j d less l.
+    let second : j < length xs = omega (arith, l, length-map xs (moved old new)) in
+    let first : i < length xs = omega (arith, less, second) in
+    let one = ap (λ (z : Node). z.oldest) (get_or-map (moved old new) xs i d d first) ∙ moved_oldest old new (get_or xs i d) in
+    let two = ap (λ (z : Node). z.oldest) (get_or-map (moved old new) xs j d d second) ∙ moved_oldest old new (get_or xs j d) in
+    omega (arith, one, two, falling i j d less second)
 
 -- no oldest LSN is below the last node's
 least_at : (xs : List Node) (i : ℕ) (d : Node) → AllPairs (λ x y. y.oldest ≤ x.oldest) xs → length xs ≡ suc i → All (λ x. (get_or xs i d).oldest ≤ x.oldest) xs

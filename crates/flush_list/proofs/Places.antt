@@ -1,24 +1,7 @@
 -- The definitions of the list, by the places of its frames.
-use Rattle.std.proofs.Common.{◌≡◌, ◌≢◌, ◌∙◌, ◌+◌, ◌==◌, ℕ, suc, zero, not, cond, List, [], ◌∷◌, inl, inr, length, get_or, Option, Some, refl, sym, ap, arith}
-use Rattle.std.specs.Prelude.{All, AllPairs}
-use Rattle.std.proofs.lemmas.Bool.{ne_eqb, eq-eqb, cases_eq, cases_lt, false≢true}
-use Rattle.std.proofs.lemmas.List.Sums.{fails_before_first}
-use Rattle.flush_list.specs.View.{Node, View, Has, place_of, moved, last_or}
-
--- each node's frame is another than those of the nodes behind it
-abbrev pub AreApart : List Node → Type 0
-AreApart xs = AllPairs (λ x y. x.frame ≢ y.frame) xs
-
--- the frame stands nowhere
-abbrev pub IsAway : ℕ → List Node → Type 0
-IsAway frame xs = All (λ x. x.frame ≢ frame) xs
-
--- who is not listed stands nowhere
-pub away_from_place : (v : View) (frame : ℕ) → ¬ Has v frame → IsAway frame v.listed
-away_from_place v frame away = λ k d l e. elim (cases_lt (place_of frame v.listed) (length v.listed)) [
-  | inl there ↦ away there
-  | inr past ↦ false≢true (sym (fails_before_first (λ (x : Node). x.frame == frame) v.listed k d (omega (arith, past, l))) ∙ eq-eqb _ _ e)
-]
+use Rattle.std.proofs.Common.{◌≡◌, ◌≢◌, ◌+◌, ℕ, suc, zero, not, cond, List, [], ◌∷◌, inl, inr, length, get_or, Option, Some, refl, ap, arith}
+use Rattle.std.proofs.lemmas.Bool.{ne_eqb, eq-eqb, cases_eq}
+use Rattle.flush_list.specs.View.{Node, place_of, moved, last_or}
 
 module _ (frame : ℕ) (x : Node) (xs : List Node) where
   pub place_here : x.frame ≡ frame → place_of frame (x ∷ xs) ≡ 0

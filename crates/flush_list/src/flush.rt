@@ -1,9 +1,9 @@
 //! The list, and its calls.
-ghost use Rattle.std.specs.Prelude.{◌≡◌, ◌==◌, ◌+◌, ◌<◌, ◌≤◌, [], ◌∷◌, All, max, length, IfSome, IsOk, OnOk, OnErr};
+ghost use Rattle.std.specs.Prelude.{◌≡◌, ◌==◌, ◌+◌, ◌<◌, ◌≤◌, ℕ, [], ◌∷◌, All, max, length, slice_index, IfSome, IsOk, OnOk, OnErr};
 ghost use Rattle.std.specs.Option.{option_map};
 ghost use Rattle.flush_list.specs.View.{Has, IsNew, IsNewest, IsInOrder, place_of, without, relocated, tail_of, next_up};
 
-use link_lists::{Chain, Nodes, a_chain_is_one_list};
+use link_lists::IndexList;
 use page_ids::OutOfMemory;
 use std::alloc::Global;
 use std::marker::Model;
@@ -14,10 +14,7 @@ use std::marker::Model;
 /// walks the list.
 #[derive(Debug, Drop)]
 pub struct Flush {
-    nodes: Nodes,
-    chain: Chain,
-    /// How many frames are listed.
-    len: u32,
+    list: IndexList,
     /// For each frame below the room, the LSN at which its page's first change that isn't on the disk starts. It is read only
     /// where the frame is listed.
     oldest: Vec<u64>,
@@ -35,16 +32,26 @@ impl Model for Flush {
     ghost invariant = { IsKept };
 }
 
+/// Makes place for an oldest LSN of each frame below `frames`. Where there is as much, no memory is taken.
+fn lengthen(oldest: &mut Vec<u64>, frames: u32) -> Result<(), OutOfMemory>
+    ensures long { OnOk result (frames ≤ length oldest.new.items) }
+    ensures longer { length oldest.old.items ≤ length oldest.new.items }
+    ensures kept { (k : ℕ) → k < length oldest.old.items → slice_index oldest.new.items k ≡ slice_index oldest.old.items k }
+    ensures had { frames ≤ length oldest.old.items → IsOk result }
+{
+    if oldest.len() < frames as usize {
+        oldest.resize(frames as usize, 0)?;
+    }
+    Ok(())
+}
+
 impl Flush {
     /// The empty list, with room for no frame.
     pub fn new(alloc: Global) -> Flush
         ensures { result ≡ record { listed = []; room = 0 } }
     {
-        a_chain_is_one_list();
         Flush {
-            nodes: Nodes::new(alloc, 1),
-            chain: Chain::new(0),
-            len: 0,
+            list: IndexList::new(alloc),
             oldest: Vec::new(alloc),
         }
     }
@@ -55,11 +62,9 @@ impl Flush {
         ensures err { OnErr result (self.new ≡ self.old) }
         ensures had { frames ≤ self.old.room → IsOk result }
     {
-        a_chain_is_one_list();
-        if self.oldest.len() < frames as usize {
-            self.nodes.grow(frames)?;
-            self.oldest.resize(frames as usize, 0)?;
-        }
+        self.list.stands_in_order();
+        lengthen(&mut self.oldest, frames)?;
+        self.list.grow(frames)?;
         Ok(())
     }
 
@@ -68,7 +73,8 @@ impl Flush {
         ensures len { result ≡ length self.now.listed }
         ensures few { result ≤ self.now.room }
     {
-        self.len
+        self.list.stands_in_order();
+        self.list.len()
     }
 
     /// Each frame is listed once, only those below the room are, and the oldest LSNs don't rise from the head to the tail
@@ -76,7 +82,7 @@ impl Flush {
     pub fn stands_in_order(&self)
         ensures { IsInOrder self.now }
     {
-        let _len = self.len;
+        self.list.stands_in_order();
     }
 
     /// Puts a frame in at the head, whose page became dirty by a change that starts at the LSN `oldest`
@@ -87,10 +93,8 @@ impl Flush {
         requires newest { IsNewest oldest self.old.listed }
         ensures { self.new ≡ record self.old { listed = record { frame = frame; oldest = oldest } ∷ self.old.listed } }
     {
-        a_chain_is_one_list();
         self.oldest[frame as usize] = oldest;
-        self.chain.push_front(&mut self.nodes, frame);
-        self.len += 1;
+        self.list.push_front(frame);
     }
 
     /// Takes out a frame whose page was written (buf0flu's `buf_flush_remove`). Touches the frame and its neighbours.
@@ -98,9 +102,8 @@ impl Flush {
         requires { Has self.old frame }
         ensures { self.new ≡ record self.old { listed = without frame self.old.listed } }
     {
-        a_chain_is_one_list();
-        self.chain.unlink(&mut self.nodes, frame);
-        self.len -= 1;
+        self.list.stands_in_order();
+        self.list.remove(frame);
     }
 
     /// Puts the frame `new` in the place of `old`, whose page moved there. It has the oldest LSN that `old` had
@@ -110,18 +113,20 @@ impl Flush {
         requires new { IsNew self.old new }
         ensures { self.new ≡ record self.old { listed = relocated old new self.old.listed } }
     {
-        a_chain_is_one_list();
+        self.list.stands_in_order();
         let oldest = self.oldest[old as usize];
         self.oldest[new as usize] = oldest;
-        self.chain.replace(&mut self.nodes, old, new);
+        self.list.replace(old, new);
     }
 
-    /// The frame at the tail, whose page is dirty since the oldest change; none where the list is empty.
+    /// The frame at the tail, whose page is dirty since the oldest change; none where the list is empty. A flush begins there
+    /// (buf0flu's `buf_do_flush_list_batch`).
     pub fn tail(&self) -> Option<u32>
         ensures tail { result ≡ option_map (λ x. x.frame) (tail_of self.now.listed) }
         ensures last { IfSome result (λ frame. place_of frame self.now.listed + 1 ≡ length self.now.listed) }
     {
-        self.chain.back()
+        self.list.stands_in_order();
+        self.list.back()
     }
 
     /// The frame next to one towards the head, which stands one place before it; none in front of the head.
@@ -131,8 +136,8 @@ impl Flush {
         ensures next { result ≡ option_map (λ x. x.frame) (next_up frame self.now.listed) }
         ensures step { IfSome result (λ next. place_of next self.now.listed + 1 ≡ place_of frame self.now.listed) }
     {
-        a_chain_is_one_list();
-        self.chain.prev(&self.nodes, frame)
+        self.list.stands_in_order();
+        self.list.prev(frame)
     }
 
     /// The oldest LSN of all that are listed, in bytes of the log: the tail's; none where the list is empty
@@ -141,8 +146,8 @@ impl Flush {
         ensures oldest { result ≡ option_map (λ x. x.oldest) (tail_of self.now.listed) }
         ensures least { IfSome result (λ lsn. All (λ x. lsn ≤ x.oldest) self.now.listed) }
     {
-        a_chain_is_one_list();
-        let tail = self.chain.back()?;
+        self.list.stands_in_order();
+        let tail = self.list.back()?;
         Some(self.oldest[tail as usize])
     }
 }

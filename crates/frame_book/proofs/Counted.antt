@@ -1,8 +1,9 @@
 -- A list that has each frame of a range once is as long as the range.
 use Rattle.std.proofs.Common.{◌≡◌, ◌∙◌, ◌+◌, ◌<◌, ◌≤◌, ℕ, suc, zero, List, [], ◌∷◌, inl, inr, length, refl, ap, arith}
 use Rattle.std.proofs.lemmas.Bool.{cases_eq}
-use Rattle.frame_book.specs.View.{times}
-use Rattle.frame_book.proofs.Times.{times-own, times-other, times-le_cons}
+use Rattle.link_lists.specs.Grid.{times}
+use Rattle.link_lists.proofs.Times.{times_at, times_past}
+use Rattle.frame_book.proofs.Times.{times-le_cons}
 
 -- how often the frames of a range stand on a list, all together
 abbrev counted : ℕ → ℕ → List ℕ → ℕ
@@ -15,7 +16,7 @@ counted-nil from (suc n) = omega (arith, counted-nil (from + 1) n)
 
 counted-below : (from n x : ℕ) (xs : List ℕ) → x < from → counted from n (x ∷ xs) ≡ counted from n xs
 counted-below from zero x xs less = refl
-counted-below from (suc n) x xs less = omega (arith, times-other from x xs (λ same. omega (arith, same, less)), counted-below (from + 1) n x xs (omega (arith, less)))
+counted-below from (suc n) x xs less = omega (arith, times_past from x xs (λ same. omega (arith, same, less)), counted-below (from + 1) n x xs (omega (arith, less)))
 
 counted-cons : (from n x : ℕ) (xs : List ℕ) → from ≤ x → x < from + n → counted from n (x ∷ xs) ≡ 1 + counted from n xs
 counted-cons from zero x xs low high = absurd (omega (arith, low, high))
@@ -24,9 +25,9 @@ counted-cons from (suc n) x xs low high = by_test (counted-cons (from + 1) n x x
     by_test : (from + 1 ≤ x → x < from + 1 + n → counted (from + 1) n (x ∷ xs) ≡ 1 + counted (from + 1) n xs) → counted from (suc n) (x ∷ xs) ≡ 1 + counted from (suc n) xs
     by_test next = elim (cases_eq x from) [
       | inl same ↦
-          let own = ap (λ g. times from (g ∷ xs)) same ∙ times-own from xs in
+          let own = ap (λ g. times from (g ∷ xs)) same ∙ times_at from xs in
           omega (arith, own, counted-below (from + 1) n x xs (omega (arith, same)))
-      | inr ne ↦ omega (arith, times-other from x xs ne, next (omega (arith, ne, low)) (omega (arith, high)))
+      | inr ne ↦ omega (arith, times_past from x xs ne, next (omega (arith, ne, low)) (omega (arith, high)))
     ]
 
 -- all of the list lies in the range
@@ -43,7 +44,7 @@ HasAll from n xs = (f : ℕ) → from ≤ f → f < from + n → 0 < times f xs
 counted-length : (from n : ℕ) (xs : List ℕ) → IsWithin from n xs → counted from n xs ≡ length xs
 counted-length from n [] within = counted-nil from n
 counted-length from n (x ∷ xs) within =
-    let here = within x (omega (arith, times-own x xs)) in
+    let here = within x (omega (arith, times_at x xs)) in
     let rest = counted-length from n xs (λ f l. within f (omega (arith, l, times-le_cons f x xs))) in
     omega (arith, counted-cons from n x xs here.0 here.1, rest)
 

@@ -1,5 +1,4 @@
 pub mod Times
 pub mod Counted
-pub mod Steps
 pub mod Order
-pub mod Pairs
+pub mod Turns

@@ -1,22 +1,11 @@
 -- How often a frame stands on a list.
-use Rattle.std.proofs.Common.{◌≡◌, ◌≢◌, ◌==◌, ◌||◌, ◌∙◌, ◌+◌, ◌<◌, ◌≤◌, ℕ, suc, zero, Bool, true, false, cond, List, [], ◌∷◌, ◌++◌, inl, inr, drop, refl, sym, ap, arith}
+use Rattle.std.proofs.Common.{◌≡◌, ◌==◌, ◌∙◌, ◌+◌, ◌<◌, ◌≤◌, ℕ, suc, zero, Bool, true, false, cond, List, [], ◌∷◌, inl, inr, drop, refl, sym, ap, arith}
 use Rattle.std.specs.Prelude.{filter}
-use Rattle.std.specs.List.{list_any}
-use Rattle.std.proofs.lemmas.Bool.{cases_eq, eq-eqb, ne_eqb, true≢false}
-use Rattle.std.proofs.lemmas.List.Sums.{sum_by-cons, sum_by-append}
+use Rattle.std.proofs.lemmas.Bool.{cases_eq, true≢false}
+use Rattle.std.proofs.lemmas.List.Sums.{sum_by-cons}
 use Rattle.page_ids.specs.Chunks.{rising}
-use Rattle.frame_book.specs.View.{times}
-
--- the list that begins with the frame has it once more
-pub times-own : (f : ℕ) (xs : List ℕ) → times f (f ∷ xs) ≡ 1 + times f xs
-times-own f xs =
-    let one = ap {B = ℕ} (λ b. cond b 1 0) (eq-eqb f f refl) in
-    omega (arith, one, sum_by-cons (λ g. cond {A = ℕ} (g == f) 1 0) f xs)
-
-pub times-other : (f g : ℕ) (xs : List ℕ) → g ≢ f → times f (g ∷ xs) ≡ times f xs
-times-other f g xs ne =
-    let none = ap {B = ℕ} (λ b. cond b 1 0) (ne_eqb g f ne) in
-    omega (arith, none, sum_by-cons (λ g. cond {A = ℕ} (g == f) 1 0) g xs)
+use Rattle.link_lists.specs.Grid.{times}
+use Rattle.link_lists.proofs.Times.{times_at, times_past}
 
 pub times-le_cons : (f g : ℕ) (xs : List ℕ) → times f xs ≤ times f (g ∷ xs)
 times-le_cons f g xs = omega (arith, sum_by-cons (λ g. cond {A = ℕ} (g == f) 1 0) g xs)
@@ -25,9 +14,6 @@ pub times-rest : (f : ℕ) (xs : List ℕ) → times f (drop 1 xs) ≤ times f x
 times-rest f [] = omega arith
 times-rest f (x ∷ xs) = times-le_cons f x xs
 
-pub times-append : (f : ℕ) (xs ys : List ℕ) → times f (xs ++ ys) ≡ times f xs + times f ys
-times-append f xs ys = sum_by-append (λ g. cond {A = ℕ} (g == f) 1 0) xs ys
-
 -- a frame that passes a test stands as often among those that pass
 pub times-passing : (p : ℕ → Bool) (f : ℕ) (xs : List ℕ) → p f ≡ true → times f (filter p xs) ≡ times f xs
 times-passing p f [] e = refl
@@ -35,7 +21,7 @@ times-passing p f (x ∷ xs) e = by_test (times-passing p f xs e) (p x) refl
   where
     by_test : times f (filter p xs) ≡ times f xs → (b : Bool) → p x ≡ b → times f (cond b (x ∷ filter p xs) (filter p xs)) ≡ times f (x ∷ xs)
     by_test next true t = omega (arith, next, sum_by-cons (λ g. cond {A = ℕ} (g == f) 1 0) x xs, sum_by-cons (λ g. cond {A = ℕ} (g == f) 1 0) x (filter p xs))
-    by_test next false t = next ∙ sym (times-other f x xs (λ same. true≢false (sym e ∙ ap p (sym same) ∙ t)))
+    by_test next false t = next ∙ sym (times_past f x xs (λ same. true≢false (sym e ∙ ap p (sym same) ∙ t)))
 
 -- and one that fails it doesn't
 pub times-failing : (p : ℕ → Bool) (f : ℕ) (xs : List ℕ) → p f ≡ false → times f (filter p xs) ≡ 0
@@ -43,18 +29,18 @@ times-failing p f [] e = refl
 times-failing p f (x ∷ xs) e = by_test (times-failing p f xs e) (p x) refl
   where
     by_test : times f (filter p xs) ≡ 0 → (b : Bool) → p x ≡ b → times f (cond b (x ∷ filter p xs) (filter p xs)) ≡ 0
-    by_test next true t = times-other f x (filter p xs) (λ same. true≢false (sym t ∙ ap p same ∙ e)) ∙ next
+    by_test next true t = times_past f x (filter p xs) (λ same. true≢false (sym t ∙ ap p same ∙ e)) ∙ next
     by_test next false t = next
 
 pub times-rising_below : (f from n : ℕ) → f < from → times f (rising from n) ≡ 0
 times-rising_below f from zero less = refl
 times-rising_below f from (suc n) less =
-    times-other f from (rising (from + 1) n) (λ same. omega (arith, same, less)) ∙ times-rising_below f (from + 1) n (omega (arith, less))
+    times_past f from (rising (from + 1) n) (λ same. omega (arith, same, less)) ∙ times-rising_below f (from + 1) n (omega (arith, less))
 
 pub times-rising_above : (f from n : ℕ) → from + n ≤ f → times f (rising from n) ≡ 0
 times-rising_above f from zero past = refl
 times-rising_above f from (suc n) past =
-    times-other f from (rising (from + 1) n) (λ same. omega (arith, same, past)) ∙ times-rising_above f (from + 1) n (omega (arith, past))
+    times_past f from (rising (from + 1) n) (λ same. omega (arith, same, past)) ∙ times-rising_above f (from + 1) n (omega (arith, past))
 
 pub times-rising_le : (f from n : ℕ) → times f (rising from n) ≤ 1
 times-rising_le f from zero = omega arith
@@ -64,18 +50,7 @@ times-rising_le f from (suc n) = by_test (times-rising_le f (from + 1) n)
     by_test next = elim (cases_eq from f) [
       | inl same ↦
           let none = times-rising_below f (from + 1) n (omega (arith, same)) in
-          let own = ap (λ g. times f (g ∷ rising (from + 1) n)) same ∙ times-own f (rising (from + 1) n) in
+          let own = ap (λ g. times f (g ∷ rising (from + 1) n)) same ∙ times_at f (rising (from + 1) n) in
           omega (arith, none, own)
-      | inr ne ↦ omega (arith, next, times-other f from (rising (from + 1) n) ne)
+      | inr ne ↦ omega (arith, next, times_past f from (rising (from + 1) n) ne)
     ]
-
--- a list that has no number like the frame's doesn't have the frame
-pub times-none : (f : ℕ) (xs : List ℕ) → list_any (λ g. g == f) xs ≡ false → times f xs ≡ 0
-times-none f [] e = refl
-times-none f (x ∷ xs) e = by_test (times-none f xs) (x == f) refl e
-  where
-    by_test : (list_any (λ g. g == f) xs ≡ false → times f xs ≡ 0) → (b : Bool) → (x == f) ≡ b → (b || list_any (λ g. g == f) xs) ≡ false → times f (x ∷ xs) ≡ 0
-    by_test next true t none = absurd (true≢false none)
-    by_test next false t none =
-        let here = ap {B = ℕ} (λ b. cond b 1 0) t in
-        omega (arith, next none, here, sum_by-cons (λ g. cond {A = ℕ} (g == f) 1 0) x xs)

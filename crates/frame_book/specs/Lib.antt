@@ -1,3 +1,3 @@
 pub mod View
-pub mod Lists
 pub mod Inside
+pub mod Moves

@@ -1,9 +1,10 @@
 //! The book, and its calls.
 ghost use Rattle.std.specs.Prelude.{◌≡◌, ◌+◌, ◌*◌, ◌<◌, ◌≤◌, ◌↔◌, ℕ, [], max, None, Some, IsTrue, IsSome, IfSome, IsOk, IsErrOf, OnOk, OnErr};
-ghost use Rattle.frame_book.specs.View.{is_inside, IsInUse, IsAllWithdrawn, IsInOrder, front, taken, given, grown, withdrawing, undone, finished};
+ghost use Rattle.frame_book.specs.View.{is_inside, IsInUse, IsAllWithdrawn, IsInOrder, taken, given, grown, withdrawing, undone, finished};
+ghost use Rattle.page_ids.specs.FrameLists.{front, no_frames};
 
-use crate::lists::Lists;
 use crate::moves::{append_rising, put_back, withdraw_from};
+use link_lists::IndexList;
 use page_ids::OutOfMemory;
 use std::alloc::Global;
 use std::marker::Model;
@@ -19,6 +20,16 @@ pub enum BookErr {
     ChunksFull { chunks: u32 },
     /// The first chunk is never withdrawn.
     LastChunk,
+}
+
+impl From<OutOfMemory> for BookErr {
+    ghost use Rattle.frame_book.specs.declared.book.BookErr.TheVariants.{OutOfMemory};
+
+    ghost from_gives = { λ _ e. e ≡ OutOfMemory };
+
+    fn from(_error: OutOfMemory) -> BookErr {
+        BookErr::OutOfMemory
+    }
 }
 
 /// The frames of an instance's chunks: the free list and the withdraw list (buf0buf's `free` and `withdraw` of a `buf_pool_t`).
@@ -37,7 +48,8 @@ pub struct Book {
     chunks: u32,
     /// The first withdrawn chunk, where an area is open.
     area: Option<u32>,
-    lists: Lists,
+    free: IndexList,
+    withdrawn: IndexList,
 }
 
 impl Model for Book {
@@ -57,14 +69,15 @@ impl Book {
     pub fn new(alloc: Global, frames: u32, max: u32) -> Book
         requires full { 1 ≤ frames }
         requires few { frames * max ≤ 16384 }
-        ensures { result ≡ record { frames = frames; max = max; chunks = 0; area = None; free = []; withdrawn = []; room = 0 } }
+        ensures { result ≡ record { frames = frames; max = max; chunks = 0; area = None; lists = no_frames; room = 0 } }
     {
         Book {
             frames,
             max,
             chunks: 0,
             area: None,
-            lists: Lists::new(alloc),
+            free: IndexList::new(alloc),
+            withdrawn: IndexList::new(alloc),
         }
     }
 
@@ -98,6 +111,17 @@ impl Book {
         chunk * self.frames
     }
 
+    /// Makes room on both lists for the frames below `frames`. Where there is as much, no memory is taken.
+    fn grow(&mut self, frames: u32) -> Result<(), OutOfMemory>
+        ensures ok { OnOk result (self.new ≡ record self.old { room = max self.old.room frames }) }
+        ensures err { OnErr result (self.new ≡ self.old) }
+        ensures had { frames ≤ self.old.room → IsOk result }
+    {
+        self.free.grow(frames)?;
+        self.withdrawn.grow(frames)?;
+        Ok(())
+    }
+
     /// Makes room for the frames of so many chunks in all: adding these then needs no memory. There is never less room than before.
     /// Where there is as much, no memory is taken.
     pub fn reserve(&mut self, chunks: u32) -> Result<(), OutOfMemory>
@@ -107,8 +131,7 @@ impl Book {
         ensures had { chunks * self.old.frames ≤ self.old.room → IsOk result }
     {
         let frames = self.first_of(chunks);
-        self.lists.grow(frames)?;
-        Ok(())
+        self.grow(frames)
     }
 
     /// Adds a chunk, whose frames go to the back of the free list in rising number (buf0buf's `buf_pool_resize`). Takes the memory
@@ -133,29 +156,26 @@ impl Book {
         }
         let first = self.first_of(self.chunks);
         let frames = self.frames;
-        match self.lists.grow(first + frames) {
-            Ok(()) => {}
-            Err(_) => return Err(BookErr::OutOfMemory),
-        }
-        append_rising(&mut self.lists, first, frames);
+        self.grow(first + frames)?;
+        append_rising(&mut self.free, first, frames);
         self.chunks += 1;
         Ok(())
     }
 
     /// The frame that `take_free` would take; it stays listed.
     pub fn front(&self) -> Option<u32>
-        ensures { result ≡ front self.now.free }
+        ensures { result ≡ front self.now.lists.free }
     {
-        self.lists.front()
+        self.free.front()
     }
 
     /// Takes the front of the free list; none where it is empty (buf0lru's `buf_LRU_get_free_only`).
     pub fn take_free(&mut self) -> Option<u32>
-        ensures front { result ≡ front self.old.free }
+        ensures front { result ≡ front self.old.lists.free }
         ensures rest { self.new ≡ taken self.old }
         ensures in_use { IfSome result (λ frame. IsInUse self.new frame) }
     {
-        self.lists.take_free()
+        self.free.pop_front()
     }
 
     /// Whether a frame lies in the area.
@@ -175,9 +195,9 @@ impl Book {
         ensures { self.new ≡ given frame self.old }
     {
         if self.is_inside(frame) {
-            self.lists.push_withdrawn(frame);
+            self.withdrawn.push_back(frame);
         } else {
-            self.lists.push_free(frame);
+            self.free.push_back(frame);
         }
     }
 
@@ -198,7 +218,7 @@ impl Book {
             return Err(BookErr::LastChunk);
         }
         let first = self.first_of(from);
-        withdraw_from(&mut self.lists, first);
+        withdraw_from(&mut self.free, &mut self.withdrawn, first);
         self.area = Some(from);
         Ok(())
     }
@@ -210,7 +230,7 @@ impl Book {
         match self.area {
             Some(from) => {
                 let frames = self.first_of(self.chunks) - self.first_of(from);
-                self.lists.withdrawn_len() == frames
+                self.withdrawn.len() == frames
             }
             None => false,
         }
@@ -223,7 +243,7 @@ impl Book {
     {
         self.chunks = self.area.unwrap_or(self.chunks);
         self.area = None;
-        self.lists.clear_withdrawn();
+        self.withdrawn.clear();
     }
 
     /// Closes the area, whose withdrawn frames go to the back of the free list in their order.
@@ -231,7 +251,7 @@ impl Book {
         requires { IsSome self.old.area }
         ensures { self.new ≡ undone self.old }
     {
-        put_back(&mut self.lists);
+        put_back(&mut self.free, &mut self.withdrawn);
         self.area = None;
     }
 }

@@ -8,7 +8,6 @@
 #![tactic(auto)]
 
 pub mod book;
-mod lists;
 mod moves;
 
 pub use book::{Book, BookErr};

@@ -3,22 +3,21 @@ ghost use Rattle.std.specs.Prelude.{◌≡◌, IfOk, Some, None};
 ghost use Rattle.page_disk.specs.Shelves.{unasked};
 
 use crate::log_file::LogFile;
+use crate::opening::{FileKey, open_log, open_tablespace};
 use crate::tablespace::TablespaceFile;
 use page_disk::{Asked, FaultCount, Shelf};
 use page_ids::{Config, Failed, PageSize};
-use std::fs::OpenOptions;
 use std::io;
 
 /// Opens the tablespace file for each disk that it hands out, and the log file for the log. Tells no content.
-///
-/// Where a standard stream is closed an opened file gets its descriptor. So a file is used through a copy, which has a descriptor of its
-/// own, and nothing that is meant for the stream goes to the file.
 #[derive(Drop)]
 pub struct FileShelf<'a> {
     rt: &'a HostRuntime,
     space: u32,
     file: &'a str,
     log: &'a str,
+    /// Which file the tablespace is, once it was opened.
+    tablespace: Option<FileKey>,
     asked: Asked,
     faults: FaultCount,
 }
@@ -37,33 +36,29 @@ impl<'a> FileShelf<'a> {
             space,
             file,
             log,
+            tablespace: None,
             asked: Asked::new(),
             faults: FaultCount::new(),
         }
     }
 
-    /// Opens the tablespace for reading and writing.
-    fn open_disk(&self, size: PageSize) -> io::Result<TablespaceFile>
+    /// Opens the tablespace, and notes which file it is.
+    fn open_disk(&mut self, size: PageSize) -> io::Result<TablespaceFile>
         ensures size { IfOk result (λ disk. disk.size ≡ size) }
-        ensures space { IfOk result (λ disk. disk.space ≡ self.now.space) }
+        ensures space { IfOk result (λ disk. disk.space ≡ self.old.space) }
         ensures faults { IfOk result (λ disk. disk.faults ≡ 0) }
+        ensures kept { (self.new.asked ≡ self.old.asked) × (self.new.faults ≡ self.old.faults) }
     {
-        let opened = OpenOptions::new()
-            .read(true)
-            .write(true)
-            .open(self.rt, self.file)?;
-        TablespaceFile::new(opened.try_clone()?, self.space, size)
+        let (file, key) = open_tablespace(self.rt, self.file)?;
+        self.tablespace = Some(key);
+        TablespaceFile::new(file, self.space, size)
     }
 
-    /// Opens the log for writing, and makes it where there is none. What it holds stays.
+    /// Opens the log, which is another file than the tablespace.
     fn open_log(&self) -> io::Result<LogFile>
         ensures faults { IfOk result (λ log. log.faults ≡ 0) }
     {
-        let opened = OpenOptions::new()
-            .write(true)
-            .create(true)
-            .open(self.rt, self.log)?;
-        LogFile::new(opened.try_clone()?)
+        LogFile::new(open_log(self.rt, self.log, self.tablespace)?)
     }
 }
 
@@ -72,19 +67,12 @@ impl Shelf for FileShelf<'_> {
 
     type Redo = LogFile;
 
-    ghost asked = { λ s. s.asked };
-
-    ghost disk_told = { λ _ _ _. None };
-
-    ghost disk_spaces = { λ _ _. None };
-
-    ghost disk_faults = { λ _ _. Some 0 };
-
-    ghost log_told = { λ _. None };
-
-    ghost log_faults = { λ _. Some 0 };
-
-    ghost fault_count = { λ s. s.faults };
+    ghost seen = { λ s. record {
+      asked = s.asked;
+      disks = λ _. record { told = λ _. None; spaces = None; faults = Some 0 };
+      log = record { told = None; faults = Some 0 };
+      faults = s.faults;
+    } };
 
     fn disk(&mut self, config: &Config, instance: u16) -> Result<TablespaceFile, Failed> {
         self.asked.note(config, instance);

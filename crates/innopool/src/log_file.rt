@@ -43,13 +43,7 @@ impl RedoDisk for LogFile {
     ghost use Rattle.std.specs.Prelude.{None};
     ghost use Rattle.std.proofs.Common.{rules};
 
-    ghost told = { λ _. None };
-
-    ghost reach = { λ f. f.reach };
-
-    ghost opened = { λ f. f.opened };
-
-    ghost fault_count = { λ f. f.faults };
+    ghost seen = { λ f. record { told = None; opened = f.opened; reach = f.reach; faults = f.faults } };
 
     ghost sized = { λ f. record { least = f.least; written = Prim.search rules; kept = Prim.search rules } };
 

@@ -1,16 +1,20 @@
 //! The program: its words, standard input and output, the tablespace file and the log file, handed to the library's top call.
 //!
-//! All that matters is in `script_run::run`. Here stand the adapters over the real outside, which tell no content
-//! and count their faults from 0, and the lines on standard error.
+//! All that matters is in `script_run`: `plain` for the commands that use no device, and `run`. Here stand the adapters over the real
+//! outside, which tell no content and count their faults from 0, and the lines on standard error.
 #![tactic(auto)]
+
+ghost use Rattle.std.specs.Prelude.{◌≡◌, ℕ, List, IsSomeAnd};
+ghost use Rattle.page_disk.specs.Shelves.{unasked};
 
 mod file_shelf;
 mod log_file;
+mod opening;
 mod standard;
 mod tablespace;
 
 use file_shelf::FileShelf;
-use script_run::run;
+use script_run::{plain, run};
 use script_text::{Program, WordsErr, command_of};
 use standard::{InputStream, OutputStream};
 use std::io::ErrorKind;
@@ -29,14 +33,32 @@ fn words_of(rt: &HostRuntime) -> Result<Vec<String>, WordsErr> {
     }
 }
 
+/// The shelf of a `run`: its tablespace, as its space, and its log.
+fn shelf_of<'a>(rt: &'a HostRuntime, program: &'a Program) -> Option<FileShelf<'a>>
+    ensures { (space : ℕ) (file log : List ℕ) → program.entry.now ≡ Program.Run space file log
+        → IsSomeAnd result (λ s. (s.space ≡ space) × (s.file.now ≡ file) × (s.log.now ≡ log) × (s.asked ≡ unasked)) }
+{
+    match program {
+        Program::Run { space, file, log } => {
+            Some(FileShelf::new(rt, *space, file.as_str(), log.as_str()))
+        }
+        Program::Check => None,
+    }
+}
+
 /// Does what the words ask for. Answers the status and, for a bad script, its line.
 fn play(rt: &HostRuntime) -> Result<(u8, u32), WordsErr> {
     let words = words_of(rt)?;
-    let Program::Run { space, file, log } = command_of(rt.alloc(), &words)?;
-    let mut script = InputStream::new(rt.stdin());
+    let mut input = InputStream::new(rt.stdin());
     let mut out = OutputStream::new(rt.stdout());
-    let mut shelf = FileShelf::new(rt, space, file.as_str(), log.as_str());
-    let outcome = run(rt, rt.alloc(), &words, &mut script, &mut out, &mut shelf);
+    if let Some(ended) = plain(rt.alloc(), &words, &mut input, &mut out) {
+        return Ok((ended.status, ended.line));
+    }
+    let program = command_of(rt.alloc(), &words)?;
+    let Some(mut shelf) = shelf_of(rt, &program) else {
+        return Err(WordsErr::Usage);
+    };
+    let outcome = run(rt, rt.alloc(), &words, &mut input, &mut out, &mut shelf);
     Ok((outcome.status, outcome.line))
 }
 

@@ -6,13 +6,42 @@ ghost use Rattle.page_disk.specs.Calls.{CountsOnce};
 
 use page_disk::{FaultCount, Sink, Source};
 use page_ids::Failed;
-use std::io::{self, Read, Write};
+use std::io::{self, ErrorKind, Read, Write};
 
 /// Bytes that one call moves at most: many times a short script, and within a count of 32 bits.
 const PIECE: usize = 0x1_0000;
 
 /// The system's number for the error of a descriptor that isn't open (`EBADF`).
 const NOT_OPEN: i32 = 9;
+
+/// A call that signals interrupt so often has failed.
+const TRIES: u32 = 1000;
+
+/// Reads to the front of `out`, and tries again where a signal came in between.
+fn read_some<R: Read>(reader: &mut R, out: &mut [u8]) -> io::Result<usize>
+    ensures { IfOk result (λ n. n ≤ length out.new) }
+{
+    for _ in 0..TRIES {
+        match reader.read(out) {
+            Err(error) if error.kind() == ErrorKind::Interrupted => (),
+            answer => return answer,
+        }
+    }
+    Err(io::Error::from(ErrorKind::Interrupted))
+}
+
+/// Writes from the front of a piece, and tries again where a signal came in between.
+fn write_some<W: Write>(writer: &mut W, piece: &[u8]) -> io::Result<usize>
+    ensures { IfOk result (λ n. n ≤ length piece.now) }
+{
+    for _ in 0..TRIES {
+        match writer.write(piece) {
+            Err(error) if error.kind() == ErrorKind::Interrupted => (),
+            answer => return answer,
+        }
+    }
+    Err(io::Error::from(ErrorKind::Interrupted))
+}
 
 /// A reader as a source. Tells no content.
 #[derive(Drop)]
@@ -45,7 +74,7 @@ impl<R: Read + Drop> Source for InputStream<R> {
         ensures once { CountsOnce self.old.faults self.new.faults result }
     {
         let most = out.len().min(PIECE);
-        match self.reader.read(&mut out[..most]) {
+        match read_some(&mut self.reader, &mut out[..most]) {
             Ok(n) => Ok(n as u32),
             Err(error) if error.raw_os_error() == Some(NOT_OPEN) => Ok(0),
             Err(_) => Err(self.faults.fail()),
@@ -76,7 +105,7 @@ impl<W: Write + Drop> OutputStream<W> {
         ensures same { self.new.faults ≡ self.old.faults }
     {
         let most = piece.len().min(PIECE);
-        let n = self.writer.write(&piece[..most])?;
+        let n = write_some(&mut self.writer, &piece[..most])?;
         self.writer.flush()?;
         Ok(n)
     }

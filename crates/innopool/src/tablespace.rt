@@ -10,7 +10,7 @@ use page_disk::{FaultCount, PageDisk};
 use page_ids::{Failed, PageId, PageSize};
 use redo_mark::Covered;
 use std::fs::File;
-use std::io;
+use std::io::{self, Seek, SeekFrom};
 use std::os::unix::fs::FileExt;
 
 /// A tablespace file as the only space of a disk: page p stands at p times the page size. Tells no content.
@@ -26,13 +26,13 @@ pub struct TablespaceFile {
 }
 
 impl TablespaceFile {
-    /// The disk of an open file. Its pages are the whole pages of the file's length now, at most 2^32 - 1.
-    pub fn new(file: File, space: u32, size: PageSize) -> io::Result<TablespaceFile>
+    /// The disk of an open file or block device. Its pages are the whole pages of the length now, at most 2^32 - 1.
+    pub fn new(mut file: File, space: u32, size: PageSize) -> io::Result<TablespaceFile>
         ensures size { IfOk result (λ disk. disk.size ≡ size) }
         ensures space { IfOk result (λ disk. disk.space ≡ space) }
         ensures faults { IfOk result (λ disk. disk.faults ≡ 0) }
     {
-        let whole = file.metadata()?.len() / u64::from(size.bytes());
+        let whole = file.seek(SeekFrom::End(0))? / u64::from(size.bytes());
         Ok(TablespaceFile {
             file,
             space,

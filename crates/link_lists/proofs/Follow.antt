@@ -29,7 +29,7 @@ stands_from_any q (x ∷ xs) e = elim (cases_eq x q) [
 ]
 
 -- a chain has no more nodes than there are
-few : (g : Grid) (c : Ends) (xs : List ℕ) → IsChain g c xs → length xs ≤ g.nodes
+pub few : (g : Grid) (c : Ends) (xs : List ℕ) → IsChain g c xs → length xs ≤ g.nodes
 few g c xs k = length-le_from_distinct_below xs g.nodes (distinct_from_once xs k.once) (λ q there. linked_within g c.pair None xs None q k.linked (stands_from_any q xs there))
 
 followed_is : (g : Grid) (pair : ℕ) (p : Option ℕ) (xs : List ℕ) (n : ℕ) → length xs ≤ n → AreLinked g pair p xs None → followed g pair n (first xs) ≡ xs

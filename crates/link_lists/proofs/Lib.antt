@@ -3,3 +3,4 @@ pub mod Written
 pub mod Grids
 pub mod Cuts
 pub mod Follow
+pub mod Lists

@@ -1,9 +1,9 @@
 -- Where a node stands in a list, and how often.
-use Rattle.std.proofs.Common.{◌≡◌, ◌≢◌, ◌+◌, ◌≤◌, ◌==◌, ℕ, cond, List, [], ◌∷◌, ◌++◌, inl, inr, Option, Some, None, refl, ap, arith}
+use Rattle.std.proofs.Common.{◌≡◌, ◌≢◌, ◌+◌, ◌≤◌, ◌==◌, ℕ, cond, List, [], ◌∷◌, ◌++◌, inl, inr, drop, Option, Some, None, refl, ap, arith}
 use Rattle.std.proofs.lemmas.List.Sums.{sum_by-cons, sum_by-append}
 use Rattle.std.proofs.lemmas.Bool.{cases_eq, cases_lt, ne_eqb, eq-eqb}
 use Rattle.link_lists.specs.Grid.{times}
-use Rattle.link_lists.specs.Chains.{last_or, IsApart}
+use Rattle.link_lists.specs.Chains.{first, last_or, IsApart}
 
 pub times-cons : (x y : ℕ) (ys : List ℕ) → times x (y ∷ ys) ≡ cond (y == x) 1 0 + times x ys
 times-cons x y ys = sum_by-cons (λ y. cond (y == x) 1 0) y ys
@@ -34,6 +34,11 @@ none_before x front back once = omega (arith, once, times-append x front (x ∷ 
 
 pub none_behind : (x : ℕ) (front back : List ℕ) → times x (front ++ x ∷ back) ≤ 1 → times x back ≡ 0
 none_behind x front back once = omega (arith, once, times-append x front (x ∷ back), times_at x back)
+
+-- the first node stands before the others
+pub first_is : (xs : List ℕ) (x : ℕ) → first xs ≡ Some x → xs ≡ x ∷ drop 1 xs
+first_is [] x e = absurd (cc)
+first_is (y ∷ ys) x e = let same : y ≡ x = cc in ap (λ z. z ∷ ys) same
 
 -- the last node stands behind the others
 last_placed : (p : Option ℕ) (x : ℕ) (xs : List ℕ) (n : ℕ) → last_or p (x ∷ xs) ≡ Some n → (front : List ℕ) × (x ∷ xs ≡ front ++ n ∷ [])

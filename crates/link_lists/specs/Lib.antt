@@ -1,3 +1,5 @@
 pub mod Grid
 pub mod Chains
 pub mod Cuts
+pub mod IndexLists
+pub mod Inside

@@ -5,13 +5,16 @@
 //! in, taken out or replaced without a search and without memory. The crate knows nothing of what the nodes stand for.
 //!
 //! The layers above use one contract of it: a chain is a list of nodes (`IsChain`), each call changes that list in the
-//! plain way, and every other chain keeps its own (`Keeps`).
+//! plain way, and every other chain keeps its own (`Keeps`). Who needs one list over its nodes alone takes an `IndexList`,
+//! whose contracts see the plain list.
 #![tactic(auto)]
 
 pub mod chain;
+pub mod index_list;
 pub mod laws;
 pub mod nodes;
 
 pub use chain::Chain;
+pub use index_list::IndexList;
 pub use laws::a_chain_is_one_list;
 pub use nodes::{Nodes, OutOfMemory};

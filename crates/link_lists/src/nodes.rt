@@ -1,5 +1,5 @@
 //! The nodes: which nodes there are, and the two neighbours of each in every pair.
-ghost use Rattle.std.specs.Prelude.{◌≡◌, ◌<◌, ◌+◌, ◌*◌, [], length, OnOk, OnErr};
+ghost use Rattle.std.specs.Prelude.{◌≡◌, ◌<◌, ◌≤◌, ◌+◌, ◌*◌, [], length, IsOk, OnOk, OnErr};
 ghost use Rattle.link_lists.specs.Grid.{link_of, IsWritten};
 ghost use Rattle.link_lists.specs.Chains.{IsGrown};
 
@@ -49,10 +49,12 @@ impl Nodes {
         }
     }
 
-    /// Makes `n` nodes in all, where there aren't as many yet. All chains stay as they are, and no new node is in one.
+    /// Makes `n` nodes in all, where there aren't as many yet: else no memory is taken. All chains stay as they are, and no new node
+    /// is in one.
     pub fn grow(&mut self, n: u32) -> Result<(), OutOfMemory>
         ensures grown { OnOk result (IsGrown self.old self.new n) }
         ensures kept { OnErr result (self.new ≡ self.old) }
+        ensures had { n ≤ self.old.nodes → IsOk result }
     {
         if n > self.count {
             let links = n as usize * self.pairs as usize;

@@ -1,12 +1,8 @@
 -- The frames of the list stay apart and below the room, and there is room for a new one.
-use Rattle.std.proofs.Common.{◌≡◌, ◌≢◌, ◌∙◌, ◌+◌, ◌<◌, ◌≤◌, ◌==◌, ℕ, suc, zero, Bool, true, false, not, cond, eqb, List, [], ◌∷◌, inl, inr, length, get_or, None, refl, sym, ap, subst, arith}
-use Rattle.std.specs.Prelude.{map, remove, All}
-use Rattle.std.specs.List.{IsDistinct, list_any}
-use Rattle.std.proofs.lemmas.List.{length-map}
-use Rattle.std.proofs.lemmas.List.Elements.{All-map, All-cons, recursion_from_All}
-use Rattle.std.proofs.lemmas.List.Sums.{sum_by-cons, passes_at_first}
-use Rattle.std.proofs.lemmas.Map.Steps.{length-le_from_distinct_below}
-use Rattle.std.proofs.lemmas.Bool.{eqb-true, ne_eqb, eq-eqb, cases_eq, cases_lt, false≢true, or_cases}
+use Rattle.std.proofs.Common.{◌≡◌, ◌≢◌, ◌∙◌, ◌<◌, ◌≤◌, ◌==◌, ℕ, true, cond, List, inl, inr, length, None, refl, sym, ap, arith}
+use Rattle.std.specs.Prelude.{remove}
+use Rattle.std.proofs.lemmas.List.Sums.{passes_at_first}
+use Rattle.std.proofs.lemmas.Bool.{eqb-true, ne_eqb, eq-eqb, cases_eq, cases_lt}
 use Rattle.page_ids.specs.Midpoint.{Listed, place_of, count_of, read_in, touch, evict, relocate}
 use Rattle.page_ids.proofs.midpoint.Counts.{count-read_in, count-touch, count-evict, count-relocate, count_from_place, none_listed}
 use Rattle.midpoint_lru.specs.View.{View, Has, IsNew}
@@ -71,34 +67,6 @@ frames-grow v frames more h = record {
   below = λ f l. h.below f (omega (arith, more, l));
 }
 
--- who is not counted stands nowhere
-apart_from_count : (f : ℕ) (xs : List (Listed ℕ)) → times f xs ≡ 0 → All (λ x. x.key ≢ f) xs
-apart_from_count f xs h k d l e = absurd (omega (arith, count_from_place (λ k. k == f) xs k d l (eq-eqb _ _ e), h))
-
-distinct_from_counts : (xs : List (Listed ℕ)) → ((f : ℕ) → times f xs ≤ 1) → IsDistinct eqb (map (λ (x : Listed ℕ). x.key) xs)
-unfolding IsDistinct
-distinct_from_counts [] h = tt
-distinct_from_counts (x ∷ xs) h =
-    let t : (f : ℕ) → times f (x ∷ xs) ≡ cond (x.key == f) 1 0 + times f xs = λ f. sum_by-cons (λ (x : Listed ℕ). cond (x.key == f) 1 0) x xs in
-    let none : times x.key xs ≡ 0 = omega (arith, h x.key, t x.key, own x.key) in (
-      recursion_from_All (λ k. eqb x.key k ≡ false) (map (λ (y : Listed ℕ). y.key) xs)
-          (All-map (λ k. eqb x.key k ≡ false) (λ (y : Listed ℕ). y.key) xs (λ k d l. ne_eqb _ _ (λ e. apart_from_count x.key xs none k d l (sym e)))),
-      distinct_from_counts xs (λ f. omega (arith, h f, t f)),
-    )
-
-below_from_any : (m q : ℕ) (keys : List ℕ) → All (λ k. k < m) keys → list_any (eqb q) keys ≡ true → q < m
-below_from_any m q [] h a = absurd (false≢true a)
-below_from_any m q (k ∷ keys) h a = elim (or_cases (eqb q k) (list_any (eqb q) keys) a) [
-  | inl t ↦ subst (λ i. i < m) (sym (eqb-true q k t)) (h 0 0 (omega arith))
-  | inr t ↦ below_from_any m q keys (λ i d l. h (suc i) d (omega arith)) t
-]
-
-all_below : (v : View) → AreFrames v → All (λ x. x.key < v.room) v.order.listed
-all_below v h k d l = elim (cases_lt (get_or v.order.listed k d).key v.room) [
-  | inl less ↦ less
-  | inr past ↦ absurd (omega (arith, h.below _ past, count_from_place (λ j. j == (get_or v.order.listed k d).key) v.order.listed k d l (eq-eqb _ _ refl)))
-]
-
 -- a listed frame is below the room
 pub below_there : (v : View) (key : ℕ) → AreFrames v → Has v key → key < v.room
 below_there v key h there = elim (cases_lt key v.room) [
@@ -114,15 +82,3 @@ out_after v key h there l =
     let count = count-evict ◌==◌ (λ k. k == key) key v.order (alike key key) there in
     let some = count_from_place (λ k. k == key) xs (place_of ◌==◌ key xs) blank l (passes_at_first (λ (x : Listed ℕ). x.key == key) xs blank l) in
     absurd (omega (arith, count, own key, h.once key, some))
-
--- there is room for a new frame
-pub few_listed : (v : View) (key : ℕ) → AreFrames v → IsNew v key → length v.order.listed < v.room
-unfolding IsDistinct
-few_listed v key h new =
-    let xs = v.order.listed in
-    let keys = map (λ (x : Listed ℕ). x.key) xs in
-    let none = new_none v key key new refl in
-    let apart = recursion_from_All (λ k. eqb key k ≡ false) keys (All-map (λ k. eqb key k ≡ false) (λ (y : Listed ℕ). y.key) xs (λ k d l. ne_eqb _ _ (λ e. apart_from_count key xs none k d l (sym e)))) in
-    let all = All-cons (λ k. k < v.room) key keys new.room (All-map (λ k. k < v.room) (λ (y : Listed ℕ). y.key) xs (all_below v h)) in
-    let le = length-le_from_distinct_below (key ∷ keys) v.room (apart, distinct_from_counts xs h.once) (λ q a. below_from_any v.room q (key ∷ keys) all a) in
-    omega (arith, le, length-map xs (λ (y : Listed ℕ). y.key))

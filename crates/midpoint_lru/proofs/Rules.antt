@@ -1,5 +1,5 @@
 -- An `Lru` behind a rule, as a view.
-use Rattle.std.proofs.Common.{◌≡◌, ◌∙◌, ◌≤◌, ◌==◌, ℕ, Bool, false, cond, List, ◌∷◌, length, set, Option, Some, sym, ap, subst, unwrap_or}
+use Rattle.std.proofs.Common.{◌≡◌, ◌∙◌, ◌==◌, ℕ, Bool, false, cond, List, ◌∷◌, set, Some, sym, ap, subst, unwrap_or}
 use Rattle.std.specs.Prelude.{remove, slice_get, slice_set}
 use Rattle.std.specs.Option.{option_map_or}
 use Rattle.page_ids.specs.Midpoint.{Listed, Order, place_of, touch, touched, moves, becomes_young, relocate}
@@ -11,9 +11,6 @@ use Rattle.midpoint_lru.specs.Inside.{view_of, IsKept, AreFrames}
 module _ (a : Inside) (v : View) (is : view_of a ≡ v) where
   pub frames_of : IsKept a → AreFrames v
   frames_of kept = subst AreFrames is kept.frames
-
-  pub few_of : IsKept a → length v.order.listed ≤ v.room
-  few_of kept = subst (λ (w : View). length w.order.listed ≤ w.room) is kept.few
 
   pub is_in : (f : ℕ) → Has v f → IsIn a.parts f
   is_in f h = subst (λ (w : View). Has w f) (sym is) h

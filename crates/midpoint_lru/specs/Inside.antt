@@ -1,5 +1,5 @@
 -- How an `Lru` is kept.
-use Rattle.std.specs.Prelude.{ℕ, ◌≡◌, ◌<◌, ◌≤◌, ◌^◌, ◌==◌, length}
+use Rattle.std.specs.Prelude.{ℕ, ◌≡◌, ◌≤◌, ◌^◌, ◌==◌, length}
 use Rattle.page_ids.specs.Midpoint.{count_of, old_length}
 use Rattle.midpoint_lru.specs.declared.lru.Lru.TheInside.{Inside}
 use Rattle.midpoint_lru.specs.View.{View}
@@ -21,6 +21,5 @@ pub record AreFrames (v : View) : Type 0 where
 pub record IsKept (a : Inside) : Type 0 where
   pub percent : a.pct ≤ 100
   pub counted : a.evicts ≤ 2 ^ 48
-  pub few : length a.parts.listed ≤ a.parts.room
   pub exact : a.parts.old_len ≡ old_length (view_of a).numbers (length a.parts.listed)
   pub frames : AreFrames (view_of a)

@@ -1,5 +1,5 @@
 -- A list whose last ones are old, and where one is put in or taken out.
-use Rattle.std.specs.Prelude.{ℕ, List, Option, None, Some, ◌<◌, ◌-◌, ◌==◌, length, nat_lt, not, if◌then◌else◌}
+use Rattle.std.specs.Prelude.{ℕ, List, Option, None, Some, ◌<◌, ◌-◌, ◌==◌, length, nat_lt, if◌then◌else◌}
 use Rattle.page_ids.specs.Midpoint.{Listed, place_of}
 
 -- the frames in order, how many of them are old, and the room: frames below it can be listed
@@ -16,11 +16,10 @@ young p = length p.listed - p.old_len
 abbrev pub IsIn : Parts → ℕ → Type 0
 IsIn p frame = place_of ◌==◌ frame p.listed < length p.listed
 
--- the frame isn't listed, and there is room for it and for one more
+-- there is room for the frame, and it isn't listed
 pub record IsOut (p : Parts) (frame : ℕ) : Type 0 where
   pub room : frame < p.room
   pub away : ¬ IsIn p frame
-  pub more : length p.listed < p.room
 
 -- how many are old without the one at this place
 abbrev pub old_without : Parts → ℕ → ℕ

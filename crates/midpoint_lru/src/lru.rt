@@ -1,5 +1,5 @@
 //! The list, and its calls.
-ghost use Rattle.std.specs.Prelude.{◌≡◌, ◌==◌, ◌+◌, ◌<◌, ◌≤◌, ◌^◌, ℕ, not, nat_lt, if◌then◌else◌, max, length, IfSome, IsOk, OnOk, OnErr};
+ghost use Rattle.std.specs.Prelude.{◌≡◌, ◌==◌, ◌+◌, ◌<◌, ◌≤◌, ◌^◌, ℕ, not, nat_lt, if◌then◌else◌, max, length, slice_get, Some, IfSome, IsOk, OnOk, OnErr};
 ghost use Rattle.page_ids.specs.Midpoint as rule;
 ghost use Rattle.page_ids.specs.Midpoint.{Listed};
 ghost use Rattle.midpoint_lru.specs.View.{Has, IsNew, place_up_to, next_up};
@@ -79,7 +79,7 @@ impl Lru {
         self.parts.len()
     }
 
-    /// Whether a touch of this frame at the moment `now` moves it to the head.
+    /// Whether a touch at the moment `now` moves a frame of which this is kept to the head (buf0buf's `buf_page_peek_if_too_old`).
     fn moves(&self, member: Member, now: u64) -> bool
         ensures { (i : ℕ) (x : Listed ℕ) → member.first ≡ x.first → member.since ≡ x.since
             → member.is_old ≡ not (nat_lt i (rule.young_length self.now.numbers (length self.now.order.listed)))
@@ -93,7 +93,19 @@ impl Lru {
         }
     }
 
-    /// Puts in a frame whose page was read in or created: at the midpoint.
+    /// What is kept of a frame, and whether a touch at the moment `now` moves it to the head.
+    fn judge(&self, frame: u32, now: u64) -> (Member, bool)
+        requires { Has self.now frame }
+        ensures found { slice_get self.now.order.listed (rule.place_of ◌==◌ frame self.now.order.listed)
+            ≡ Some (record { key = frame; first = result.0.first; since = result.0.since }) }
+        ensures moves { result.1 ≡ rule.moves self.now.numbers now self.now.order (rule.place_of ◌==◌ frame self.now.order.listed)
+            (record { key = frame; first = result.0.first; since = result.0.since }) }
+    {
+        let member = self.parts.member(frame);
+        (member, self.moves(member, now))
+    }
+
+    /// Puts in a frame whose page was read in or created: at the midpoint (buf0lru's `buf_LRU_add_block`).
     pub fn read_in(&mut self, frame: u32)
         requires { IsNew self.old frame }
         ensures { self.new ≡ record self.old { order = rule.read_in self.old.numbers frame self.old.order } }
@@ -103,16 +115,17 @@ impl Lru {
         self.parts.settle(old);
     }
 
-    /// Touches a frame at the moment `now`, in milliseconds, and answers whether that moved it to the head.
+    /// Touches a frame at the moment `now`, in milliseconds, and answers whether that moved it to the head
+    /// (buf0buf's `buf_page_make_young_if_needed`).
     pub fn touch(&mut self, frame: u32, now: u64) -> Touch
         requires { Has self.old frame }
         ensures order { self.new ≡ record self.old { order = rule.touch ◌==◌ self.old.numbers frame now self.old.order } }
         ensures answer { result ≡
             (if rule.becomes_young ◌==◌ self.old.numbers frame now self.old.order then Touch.Young else Touch.Stayed) }
     {
-        let member = self.parts.member(frame);
+        let (member, moves) = self.judge(frame, now);
         let first = Some(member.first.unwrap_or(now));
-        if self.moves(member, now) {
+        if moves {
             self.parts.take(frame);
             self.parts.put_first(frame, first, self.evicts);
             let old = old_length(self.pct, self.min, self.parts.len());
@@ -124,7 +137,7 @@ impl Lru {
         }
     }
 
-    /// Takes out a frame whose page is evicted, and counts one eviction.
+    /// Takes out a frame whose page is evicted, and counts one eviction (buf0lru's `buf_LRU_remove_block`).
     pub fn remove(&mut self, frame: u32)
         requires listed { Has self.old frame }
         requires few { self.old.order.evicts < 2 ^ 48 }
@@ -136,7 +149,7 @@ impl Lru {
         self.parts.settle(old);
     }
 
-    /// Puts the frame `new` in the place of `old`, whose page moved there.
+    /// Puts the frame `new` in the place of `old`, whose page moved there (buf0buf's `buf_relocate`).
     pub fn relocate(&mut self, old: u32, new: u32)
         requires listed { Has self.old old }
         requires new { IsNew self.old new }
@@ -145,7 +158,8 @@ impl Lru {
         self.parts.replace(old, new);
     }
 
-    /// The tail, or the frame next to `after` towards the head, which stands one place before it.
+    /// The tail, or the frame next to `after` towards the head, which stands one place before it. A search for a victim goes so
+    /// (buf0lru's `buf_LRU_free_from_common_LRU_list`).
     pub fn walk(&self, after: Option<u32>) -> Option<u32>
         requires { IfSome after (λ frame. Has self.now frame) }
         ensures next { result ≡ next_up after self.now.order.listed }
@@ -166,7 +180,7 @@ fn has_waited(time: u64, first: Option<u64>, now: u64) -> bool
     }
 }
 
-/// How many of so many frames are old.
+/// How many of so many frames are old (buf0lru's `buf_LRU_old_adjust_len`).
 fn old_length(pct: u32, min: u32, len: u32) -> u32
     requires { pct ≤ 100 }
     ensures old { (time : ℕ) → result ≡ rule.old_length (record { pct = pct; time = time; min = min }) len }

@@ -1,12 +1,13 @@
 //! The list in its two sublists: the young frames, and behind them the old ones. How many are old is moved by neighbours.
 ghost use Rattle.std.specs.Prelude.{◌≡◌, ◌==◌, ◌+◌, ◌-◌, ◌<◌, ◌≤◌, ◌++◌, [], ◌∷◌, ℕ, List, length, max, not, nat_lt, insert, remove, slice_get, slice_set, None, Some, IfSome, IsOk, OnOk, OnErr, if◌then◌else◌};
 ghost use Rattle.std.specs.Option.{option_map};
-ghost use Rattle.link_lists.specs.Chains.{IsChain, first, last};
+ghost use Rattle.link_lists.specs.Chains.{first, last};
 ghost use Rattle.page_ids.specs.Midpoint.{Listed, place_of};
 ghost use Rattle.midpoint_lru.specs.View.{place_up_to, next_up};
+ghost use Rattle.midpoint_lru.specs.Sublists.{member_of};
 ghost use Rattle.midpoint_lru.specs.Parts.{IsIn, IsOut, young, old_without, instead};
 
-use link_lists::{Chain, Nodes, a_chain_is_one_list};
+use link_lists::IndexList;
 use page_ids::OutOfMemory;
 use std::alloc::Global;
 use std::marker::Model;
@@ -22,13 +23,11 @@ pub(crate) struct Member {
     pub(crate) is_old: bool,
 }
 
-/// The listed frames, the young ones first: one chain, of which the first old frame is known.
+/// The listed frames, the young ones first: one index list, of which the first old frame is known.
 #[derive(Debug, Drop)]
 pub(crate) struct Sublists {
-    nodes: Nodes,
-    chain: Chain,
-    /// How many frames are listed, and how many of them are old.
-    len: u32,
+    list: IndexList,
+    /// How many frames are old.
     old_len: u32,
     first_old: Option<u32>,
     /// By the frames' numbers; read only where a frame is listed.
@@ -51,11 +50,8 @@ impl Sublists {
     pub(crate) fn new(alloc: Global) -> Sublists
         ensures { result ≡ record { listed = []; old_len = 0; room = 0 } }
     {
-        a_chain_is_one_list();
         Sublists {
-            nodes: Nodes::new(alloc, 1),
-            chain: Chain::new(0),
-            len: 0,
+            list: IndexList::new(alloc),
             old_len: 0,
             first_old: None,
             members: Vec::new(alloc),
@@ -68,25 +64,18 @@ impl Sublists {
         ensures err { OnErr result (self.new ≡ self.old) }
         ensures had { frames ≤ self.old.room → IsOk result }
     {
-        a_chain_is_one_list();
-        if self.members.len() < frames as usize {
-            let member = Member {
-                first: None,
-                since: 0,
-                is_old: false,
-            };
-            self.nodes.grow(frames)?;
-            self.members.resize(frames as usize, member)?;
-        }
+        lengthen(&mut self.members, frames)?;
+        self.list.grow(frames)?;
         Ok(())
     }
 
     /// How many frames are listed.
     pub(crate) fn len(&self) -> u32
-        ensures { result ≡ length self.now.listed }
+        ensures len { result ≡ length self.now.listed }
+        ensures few { result ≤ self.now.room }
     {
-        a_chain_is_one_list();
-        self.len
+        self.list.stands_in_order();
+        self.list.len()
     }
 
     /// How many of them are old.
@@ -94,7 +83,6 @@ impl Sublists {
         ensures old { result ≡ self.now.old_len }
         ensures within { result ≤ length self.now.listed }
     {
-        a_chain_is_one_list();
         self.old_len
     }
 
@@ -105,7 +93,6 @@ impl Sublists {
             ≡ Some (record { key = frame; first = result.first; since = result.since }) }
         ensures old { result.is_old ≡ not (nat_lt (place_of ◌==◌ frame self.now.listed) (young self.now)) }
     {
-        a_chain_is_one_list();
         self.members[frame as usize]
     }
 
@@ -114,14 +101,13 @@ impl Sublists {
         requires { IsOut self.old frame }
         ensures { self.new ≡ record self.old { listed = record { key = frame; first = first; since = since } ∷ self.old.listed } }
     {
-        a_chain_is_one_list();
         self.members[frame as usize] = Member {
             first,
             since,
             is_old: false,
         };
-        self.chain.push_front(&mut self.nodes, frame);
-        self.len += 1;
+        self.list.push_front(frame);
+        self.list.stands_in_order();
     }
 
     /// Puts a frame in before the first old one; it is young. Touches the frame and its neighbours.
@@ -133,17 +119,16 @@ impl Sublists {
               (record { key = frame; first = None; since = since });
         } }
     {
-        a_chain_is_one_list();
         self.members[frame as usize] = Member {
             first: None,
             since,
             is_old: false,
         };
         match self.first_old {
-            Some(at) => self.chain.insert_before(&mut self.nodes, at, frame),
+            Some(at) => self.list.insert_before(at, frame),
             None => unreachable!(),
         }
-        self.len += 1;
+        self.list.stands_in_order();
     }
 
     /// Puts a frame in before the first old one, or at the head where none is old; it is young.
@@ -169,12 +154,11 @@ impl Sublists {
           old_len = old_without self.old (place_of ◌==◌ frame self.old.listed);
         } }
     {
-        a_chain_is_one_list();
-        let next = self.chain.next(&self.nodes, frame);
+        let next = self.list.next(frame);
         self.first_old = instead(self.first_old, frame, next);
         self.old_len -= u32::from(self.members[frame as usize].is_old);
-        self.chain.unlink(&mut self.nodes, frame);
-        self.len -= 1;
+        self.list.remove(frame);
+        self.list.stands_in_order();
     }
 
     /// Puts `new` in the place of `old`, with all that is kept of it. Touches both frames and the neighbours.
@@ -188,11 +172,11 @@ impl Sublists {
                   (record { key = new; first = x.first; since = x.since });
             } }
     {
-        a_chain_is_one_list();
         let member = self.members[old as usize];
         self.members[new as usize] = member;
         self.first_old = instead(self.first_old, old, Some(new));
-        self.chain.replace(&mut self.nodes, old, new);
+        self.list.replace(old, new);
+        self.list.stands_in_order();
     }
 
     /// Gives a frame another first access. Touches nothing else.
@@ -204,7 +188,6 @@ impl Sublists {
                   (record { key = x.key; first = first; since = x.since });
             } }
     {
-        a_chain_is_one_list();
         let member = self.members[frame as usize];
         self.members[frame as usize] = Member { first, ..member };
     }
@@ -214,8 +197,8 @@ impl Sublists {
         requires { self.old.old_len < length self.old.listed }
         ensures { self.new ≡ record self.old { old_len = self.old.old_len + 1 } }
     {
-        a_chain_is_one_list();
-        match last_young(&self.nodes, &self.chain, self.first_old) {
+        prove!(self.old_len < self.list.len());
+        match last_young(&self.list, self.first_old) {
             Some(frame) => {
                 let member = self.members[frame as usize];
                 self.members[frame as usize] = Member {
@@ -234,7 +217,6 @@ impl Sublists {
         requires { 0 < self.old.old_len }
         ensures { self.new ≡ record self.old { old_len = self.old.old_len - 1 } }
     {
-        a_chain_is_one_list();
         match self.first_old {
             Some(frame) => {
                 let member = self.members[frame as usize];
@@ -242,7 +224,7 @@ impl Sublists {
                     is_old: false,
                     ..member
                 };
-                self.first_old = self.chain.next(&self.nodes, frame);
+                self.first_old = self.list.next(frame);
                 self.old_len -= 1;
             }
             None => unreachable!(),
@@ -283,27 +265,43 @@ impl Sublists {
         ensures next { result ≡ next_up after self.now.listed }
         ensures step { IfSome result (λ frame. place_of ◌==◌ frame self.now.listed + 1 ≡ place_up_to after self.now.listed) }
     {
-        a_chain_is_one_list();
         match after {
-            None => self.chain.back(),
-            Some(frame) => self.chain.prev(&self.nodes, frame),
+            None => self.list.back(),
+            Some(frame) => self.list.prev(frame),
         }
     }
 }
 
-/// The last of the young frames, where the chain is the young ones and then the old ones, of which `first_old` is the first.
-fn last_young(nodes: &Nodes, chain: &Chain, first_old: Option<u32>) -> Option<u32>
-    requires { (young old : List ℕ) × IsChain nodes.now chain.now (young ++ old) × (first_old ≡ first old) }
-    ensures { (young old : List ℕ) → IsChain nodes.now chain.now (young ++ old) → first_old ≡ first old
-        → result ≡ last young }
+/// The last of the young frames, where the list is the young ones and then the old ones, of which `first_old` is the first.
+fn last_young(list: &IndexList, first_old: Option<u32>) -> Option<u32>
+    requires { (young old : List ℕ) × (list.now.items ≡ young ++ old) × (first_old ≡ first old) }
+    ensures { (young old : List ℕ) → list.now.items ≡ young ++ old → first_old ≡ first old → result ≡ last young }
 {
     match first_old {
-        Some(frame) => chain.prev(nodes, frame),
-        None => chain.back(),
+        Some(frame) => list.prev(frame),
+        None => list.back(),
     }
 }
 
-/// Another node where `first` is the frame, and else `first`.
+/// Makes place for a member of each frame below `frames`. Where there is as much, no memory is taken.
+fn lengthen(members: &mut Vec<Member>, frames: u32) -> Result<(), OutOfMemory>
+    ensures long { OnOk result (frames ≤ length members.new.items) }
+    ensures longer { length members.old.items ≤ length members.new.items }
+    ensures kept { (f : ℕ) → f < length members.old.items → member_of members.new.items f ≡ member_of members.old.items f }
+    ensures had { frames ≤ length members.old.items → IsOk result }
+{
+    if members.len() < frames as usize {
+        let member = Member {
+            first: None,
+            since: 0,
+            is_old: false,
+        };
+        members.resize(frames as usize, member)?;
+    }
+    Ok(())
+}
+
+/// Another frame where `first` is the frame, and else `first`.
 fn instead(first: Option<u32>, frame: u32, other: Option<u32>) -> Option<u32>
     ensures { result ≡ instead first frame other }
 {

@@ -1,22 +1,18 @@
 -- The pages that a disk in memory keeps.
-use Rattle.std.proofs.Common.{◌≡◌, ◌+◌, ◌<◌, ℕ, Bool, true, false, cond, List, [], ◌∷◌, ◌++◌, length, take, drop, get_or, ap, refl, sym, subst, ◌∙◌, arith}
-use Rattle.std.specs.Prelude.{Option, Some, None, IfSome, IsSomeAnd, All, slice_get, remove, nat_lt, unwrap_or, if◌then◌else◌}
+use Rattle.std.proofs.Common.{◌≡◌, ◌<◌, ℕ, Bool, true, false, cond, List, [], ◌∷◌, ◌++◌, length, take, drop, get_or, ap, sym, subst, ◌∙◌, arith}
+use Rattle.std.specs.Prelude.{Option, Some, None, IfSome, IsSomeAnd, All, nat_lt, unwrap_or, if◌then◌else◌}
 use Rattle.std.specs.Global.{Vec}
-use Rattle.std.specs.Cmp.{IsTotalOrder}
 use Rattle.std.specs.BTreeMap.{is_at}
-use Rattle.std.proofs.lemmas.Cmp.{on_total, then_total, nat_cmp_total, eq_by_cmp_equiv}
+use Rattle.std.proofs.lemmas.Cmp.{eq_by_cmp_equiv}
 use Rattle.std.proofs.lemmas.List.{append_assoc, append-nil, map-append, length-append, length-replicate, take_all, drop_all}
 use Rattle.std.proofs.lemmas.Grind.{common_steps}
 use Rattle.std.proofs.Math.Seq.{get_or-append_seam}
-use Rattle.std.proofs.Math.Numerals.{add-one}
 use Rattle.std.proofs.Math.ListN.{get_or-append}
+use Rattle.page_ids.proofs.Basics.{pages_total}
 use Rattle.page_ids.specs.Same.{page_cmp}
 use Rattle.page_ids.specs.declared.ids.PageId.{PageId}
 use Rattle.page_disk.specs.Disks.{IsInside}
 use Rattle.page_disk.specs.MemoryDisks.{DiskMemory, Kept, whole, contents_of, kept_of, pages_of, spaces_of, bytes_in, told_of, IsKept, IsSized}
-
-pages_total : IsTotalOrder page_cmp
-pages_total = then_total (on_total (λ p. p.space) nat_cmp_total) (on_total (λ p. p.page) nat_cmp_total)
 
 -- a page is at itself
 pub at_itself : (p : PageId) → is_at (page_cmp p) p ≡ true
@@ -56,11 +52,6 @@ pub all_before : {X : Type 0} (P : X → Type 0) (xs ys : List X) (x : X) → xs
 all_before P xs ys x split all k d below =
     let long : k < length xs = omega (arith, ap length split, length-append ys (x ∷ [])) in
     subst P (ap (λ zs. get_or zs k d) split ∙ get_or-append ys (x ∷ []) d k below) (all k d long)
-
--- the second disk comes to the front
-pub next_comes : {X : Type 0} (xs : List X) (n : ℕ) → slice_get (remove xs 0) n ≡ slice_get xs (n + 1)
-next_comes [] n = refl
-next_comes (x ∷ xs) n = rw (add-one n) refl
 
 -- every page has so many bytes
 pub bytes_sized : (size : ℕ) (k : Option Kept) → IfSome k (λ kept. length kept.bytes ≡ size) → length (bytes_in size k) ≡ size

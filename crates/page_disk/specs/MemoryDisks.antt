@@ -1,5 +1,5 @@
 -- Disks in memory, and a shelf of them.
-use Rattle.std.specs.Prelude.{ℕ, Bool, true, false, List, Option, None, Some, ◌≡◌, ◌≢◌, ◌==◌, ◌++◌, ◌/◌, cond, length, map, find, take, drop, replicate, nat_lt, slice_get, IfSome, option_map, option_and_then, if◌then◌else◌}
+use Rattle.std.specs.Prelude.{ℕ, Bool, true, false, List, Option, None, Some, ◌≡◌, ◌≢◌, ◌==◌, ◌++◌, ◌/◌, cond, length, map, find, take, drop, replicate, nat_lt, slice_index_or, IfSome, option_map, option_and_then, if◌then◌else◌}
 use Rattle.std.specs.Global.{Vec}
 use Rattle.std.specs.Map.{lookup}
 use Rattle.std.specs.BTreeMap.{is_at}
@@ -7,11 +7,11 @@ use Rattle.page_ids.specs.Size.{page_bytes}
 use Rattle.page_ids.specs.Same.{page_cmp}
 use Rattle.page_ids.specs.declared.ids.PageId.{PageId}
 use Rattle.page_ids.specs.declared.ids.PageSize.{PageSize}
-use Rattle.redo_mark.specs.Device.{Told, IsAsOpened}
+use Rattle.redo_mark.specs.Device.{RedoSeen, IsAsOpened}
 use Rattle.redo_mark.specs.Memory.{Counts}
 use Rattle.redo_mark.specs.declared.memory.RedoMemory.{RedoMemory}
 use Rattle.page_disk.specs.Disks.{DiskSeen, pages_in}
-use Rattle.page_disk.specs.Shelves.{Asked}
+use Rattle.page_disk.specs.Shelves.{Asked, ShelfSeen, OfferedDisk, OfferedLog}
 
 -- the bytes that are kept of a page, and whether its last write failed behind the first half
 pub record Kept : Type 0 where
@@ -94,37 +94,36 @@ told_of d p = if nat_lt p.page (pages_in (spaces_of d) p.space) then told_in (si
 abbrev pub disk_seen : DiskMemory → DiskSeen
 disk_seen d = record { size = size_of d; tells = tells_of d; told = told_of d; spaces = spaces_of d; faults = faults_of d; synced = synced_of d }
 
--- the disks and the log that it will hand out, and how it was called
+-- the disks of the instances and the log, where they were not handed out, and how it was called
 pub record MemoryShelf : Type 0 where
-  pub disks : List DiskMemory
+  pub disks : List (Option DiskMemory)
   pub redo : Option RedoMemory
   pub asked : Asked
   pub calls : Counts
 
--- what the disk at this place tells, its spaces, and its count of faults
-abbrev pub disk_told_of : List DiskMemory → ℕ → PageId → Option (List ℕ)
-disk_told_of disks n p = option_and_then (λ d. told_of d p) (slice_get disks n)
+-- the disk of an instance, where it is there
+abbrev pub disk_of : List (Option DiskMemory) → ℕ → Option DiskMemory
+disk_of disks instance = slice_index_or disks instance None
 
-abbrev pub disk_spaces_of : List DiskMemory → ℕ → Option (ℕ → Option ℕ)
-disk_spaces_of disks n = option_map spaces_of (slice_get disks n)
+-- no disk of this page size is there for the instance
+abbrev pub IsMissing : PageSize → ℕ → List (Option DiskMemory) → Type 0
+IsMissing size instance disks = IfSome (disk_of disks instance) (λ d. d.size ≢ size)
 
-abbrev pub disk_faults_of : List DiskMemory → ℕ → Option ℕ
-disk_faults_of disks n = option_map faults_of (slice_get disks n)
+-- with what a disk is handed out; nothing is told of one that is not there
+abbrev pub offered_disk : Option DiskMemory → OfferedDisk
+offered_disk disk = record { told = λ p. option_and_then (λ d. told_of d p) disk; spaces = option_map spaces_of disk; faults = option_map faults_of disk }
 
--- no disk of this page size comes next
-abbrev pub IsMissing : PageSize → List DiskMemory → Type 0
-IsMissing size disks = IfSome (slice_get disks 0) (λ d. d.size ≢ size)
+-- what the log's device tells
+abbrev pub redo_seen : RedoMemory → RedoSeen
+redo_seen m = record { told = Rattle.redo_mark.specs.Memory.told_of m.written.items m.kept; opened = m.opened; reach = length m.written.items; faults = m.calls.faults }
 
--- what the log's device tells, and its count of faults
-abbrev pub redo_told : RedoMemory → Option Told
-redo_told m = Rattle.redo_mark.specs.Memory.told_of m.written.items m.kept
+-- and with what it is handed out
+abbrev pub offered_log : Option RedoMemory → OfferedLog
+offered_log redo = record { told = option_and_then (λ m. (redo_seen m).told) redo; faults = option_map (λ m. (redo_seen m).faults) redo }
 
-abbrev pub log_told_of : Option RedoMemory → Option Told
-log_told_of redo = option_and_then redo_told redo
-
-abbrev pub log_faults_of : Option RedoMemory → Option ℕ
-log_faults_of redo = option_map (λ m. m.calls.faults) redo
+abbrev pub shelf_seen : MemoryShelf → ShelfSeen
+shelf_seen s = record { asked = s.asked; disks = λ instance. offered_disk (disk_of s.disks instance); log = offered_log s.redo; faults = s.calls.faults }
 
 -- nothing was written to the device
 abbrev pub IsUnwritten : RedoMemory → Type 0
-IsUnwritten m = IsAsOpened m.opened (redo_told m)
+IsUnwritten m = IsAsOpened m.opened (redo_seen m).told

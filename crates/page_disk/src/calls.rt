@@ -42,6 +42,7 @@ impl FaultCount {
         Failed
     }
 
+    /// How many faults were counted.
     pub fn get(&self) -> u64
         ensures { result ≡ self.now }
     {

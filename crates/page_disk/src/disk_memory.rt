@@ -81,14 +81,6 @@ fn keep(
     Ok(())
 }
 
-/// The bytes with others put over their front.
-fn put_over(bytes: &mut [u8], front: &[u8])
-    requires { length front.now ≤ length bytes.old }
-    ensures { bytes.new ≡ front.now ++ drop (length front.now) bytes.old }
-{
-    bytes[..front.len()].copy_from_slice(front);
-}
-
 impl DiskMemory {
     /// A disk of these spaces, each with its number of pages, where `told` is told and every other page is of zeros.
     /// It fails at its calls with the numbers in `failing`, from 1.
@@ -139,14 +131,16 @@ impl DiskMemory {
         self.calls.wants()
     }
 
-    /// A copy of the bytes of a page.
-    fn copy(&self, page: PageId) -> Result<Vec<u8>, OutOfMemory>
-        ensures { IfOk result (λ bytes. bytes.items ≡ bytes_of self.now page) }
+    /// Appends the bytes of a page from a place on.
+    fn append_rest(&self, page: PageId, at: usize, out: &mut Vec<u8>) -> Result<(), OutOfMemory>
+        requires { at ≤ size_of self.now }
+        ensures { OnOk result (out.new.items ≡ out.old.items ++ drop at (bytes_of self.now page)) }
     {
         match self.kept.get(&page) {
-            Some(kept) => Ok(kept.bytes.clone()?),
-            None => Ok(vec![in self.alloc; 0; self.size.bytes() as usize]?),
+            Some(kept) => out.extend_from_slice(&kept.bytes[at..])?,
+            None => out.resize(out.len() + (self.size.bytes() as usize - at), 0)?,
         }
+        Ok(())
     }
 
     /// Puts bytes over the front of a page's.
@@ -158,8 +152,8 @@ impl DiskMemory {
         ensures err { OnErr result (self.new.kept ≡ self.old.kept) }
         ensures rest { self.new ≡ record self.old { kept = self.new.kept } }
     {
-        let mut bytes = self.copy(page)?;
-        put_over(bytes.as_mut_slice(), front);
+        let mut bytes = Vec::from_slice(self.alloc, front)?;
+        self.append_rest(page, front.len(), &mut bytes)?;
         keep(&mut self.kept, page, bytes, torn)
     }
 }

@@ -8,7 +8,7 @@ use Rattle.page_ids.specs.declared.ids.PageId.{PageId}
 use Rattle.link_lists.specs.Grid.{Grid, times}
 use Rattle.link_lists.specs.Chains.{Ends, IsChain, Keeps}
 use Rattle.page_hash.specs.Cells.{cell_of, falls_into, with_page, IsCell, AreFiled}
-use Rattle.page_hash.proofs.Times.{times-append, times_at, times_past, placed}
+use Rattle.link_lists.proofs.Times.{times-append, times_at, times_past, placed}
 
 abbrev pub Tags : Type 0
 Tags = ℕ → Option PageId

@@ -8,7 +8,7 @@ use Rattle.link_lists.specs.Chains.{Ends, IsChain, first, list_of}
 use Rattle.page_ids.specs.declared.ids.PageId.{PageId}
 use Rattle.page_hash.specs.Cells.{cell_of, falls_into, IsCell}
 use Rattle.page_hash.specs.View.{page_in}
-use Rattle.page_hash.proofs.Times.{times-append, times_at, times_past}
+use Rattle.link_lists.proofs.Times.{times-append, times_at, times_past}
 use Rattle.page_hash.proofs.Filed.{Counts, own_cell, stands}
 
 -- how many stand from this one on

@@ -1,13 +1,13 @@
 -- The frame of each page behind a change of a frame's page.
-use Rattle.std.proofs.Common.{◌≡◌, ◌≢◌, ◌∙◌, ◌+◌, ◌<◌, ◌≤◌, ◌&&◌, ℕ, Bool, true, false, cond, nat_eq, List, [], ◌∷◌, ◌++◌, inl, inr, length, set, take, Option, None, Some, refl, sym, ap, subst, arith}
+use Rattle.std.proofs.Common.{◌≡◌, ◌≢◌, ◌∙◌, ◌+◌, ◌<◌, ◌≤◌, ℕ, Bool, true, false, cond, List, [], ◌∷◌, ◌++◌, inl, inr, length, set, take, Option, None, Some, refl, sym, ap, subst, arith}
 use Rattle.std.proofs.lemmas.Bool.{cases_eq, cases_lt, ne_eqb, eq-eqb, lt-ltb}
-use Rattle.std.proofs.lemmas.Bool.Decides.{nat_tests}
 use Rattle.std.proofs.lemmas.List.{length-set, length-take, get_or-set_other, get_or_past, get_or_push, get_or_append_left, take_more, length-append}
 use Rattle.std.specs.List.{position_or_len}
 use Rattle.std.proofs.lemmas.Option.{none-some}
 use Rattle.std.proofs.lemmas.List.Sums.{fails_before_first}
 use Rattle.std.proofs.lemmas.List.Quantifiers.{position-Some}
 use Rattle.std.proofs.lemmas.Grind.{get_or-set_at}
+use Rattle.page_ids.proofs.Basics.{some_same, same_self, one_page}
 use Rattle.page_ids.specs.declared.ids.PageId.{PageId}
 use Rattle.page_ids.specs.Same.{same_page}
 use Rattle.page_hash.specs.Cells.{with_page}
@@ -16,25 +16,6 @@ use Rattle.page_hash.specs.Inside.{AreApart}
 
 abbrev pub Pages : Type 0
 Pages = List (Option PageId)
-
-same_self : (p : PageId) → same_page p p ≡ true
-same_self p = ap (λ (b : Bool). b && nat_eq p.page p.page) (eq-eqb p.space p.space refl) ∙ eq-eqb p.page p.page refl
-
-both : (a b : Bool) → (a && b) ≡ true → (a ≡ true) × (b ≡ true)
-both true b h = (refl, h)
-both false b h = absurd (cc)
-
-number_is : (m n : ℕ) → nat_eq m n ≡ true → m ≡ n
-number_is m n h = grind (arith, nat_tests)
-
-pub one_page : (p q : PageId) → same_page p q ≡ true → p ≡ q
-one_page p q h =
-    let tests = both (nat_eq p.space q.space) (nat_eq p.page q.page) h in
-    let make = λ (s n : ℕ). let id : PageId = record { space = s; page = n } in id in
-    ap (λ s. make s p.page) (number_is p.space q.space tests.0) ∙ ap (λ n. make q.space n) (number_is p.page q.page tests.1)
-
-some_is : (p q : PageId) → ◌≡◌ {A = Option PageId} (Some p) (Some q) → p ≡ q
-some_is p q e = cc
 
 pub is_its_page : (p : PageId) (o : Option PageId) → is_page p o ≡ true → o ≡ Some p
 is_its_page p None h = absurd (cc)
@@ -151,7 +132,7 @@ inserted pages page frame l apart away free =
         homes = homes_from pages new page (Some frame) (home_is new page frame still here) (λ p t. home_same pages new p still
             (λ f e. set_else pages frame f (Some page) (λ own. none-some p (sym free ∙ ap (page_in pages) (sym own) ∙ e)) ∙ e)
             (λ f e. elim (cases_eq f frame) [
-              | inl own ↦ absurd (differ p page t (some_is p page (sym e ∙ ap (page_in new) own ∙ here)))
+              | inl own ↦ absurd (differ p page t (some_same (sym e ∙ ap (page_in new) own ∙ here)))
               | inr ne ↦ sym (set_else pages frame f (Some page) ne) ∙ e
             ]));
         room_is = length-set pages frame (Some page);
@@ -165,12 +146,12 @@ inserted pages page frame l apart away free =
           | inl own ↦ elim (cases_eq g frame) [
             | inl too ↦ own ∙ sym too
             | inr ne ↦
-                let is : page ≡ p = some_is page p (sym here ∙ ap (page_in (set pages frame (Some page))) (sym own) ∙ e) in
+                let is : page ≡ p = some_same (sym here ∙ ap (page_in (set pages frame (Some page))) (sym own) ∙ e) in
                 absurd (no_home pages page g away (sym (set_else pages frame g (Some page) ne) ∙ h ∙ ap Some (sym is)))
           ]
           | inr ne ↦ elim (cases_eq g frame) [
             | inl own ↦
-                let is : page ≡ p = some_is page p (sym here ∙ ap (page_in (set pages frame (Some page))) (sym own) ∙ h) in
+                let is : page ≡ p = some_same (sym here ∙ ap (page_in (set pages frame (Some page))) (sym own) ∙ h) in
                 absurd (no_home pages page f away (sym (set_else pages frame f (Some page) ne) ∙ e ∙ ap Some (sym is)))
             | inr other ↦ apart f g p (sym (set_else pages frame f (Some page) ne) ∙ e) (sym (set_else pages frame g (Some page) other) ∙ h)
           ]
@@ -185,7 +166,7 @@ removed pages page frame apart there =
         homes = homes_from pages new page None
             (none_home new page (λ f e. other f page e (apart f frame page (left f page e) was)))
             (λ p t. home_same pages new p still
-            (λ f e. set_else pages frame f None (λ own. differ p page t (some_is p page (sym e ∙ ap (page_in pages) own ∙ was))) ∙ e)
+            (λ f e. set_else pages frame f None (λ own. differ p page t (some_same (sym e ∙ ap (page_in pages) own ∙ was))) ∙ e)
             (λ f e. left f p e));
         room_is = length-set pages frame None;
       };
@@ -223,7 +204,7 @@ out_of_map old mid page out = out.homes page ∙ ap (λ b. cond b None (home old
 
 pub in_order : (pages : Pages) → AreApart pages → IsInOrder pages
 in_order pages apart = record {
-  once = λ p q f e h. some_is p q (sym (at_home pages p f e) ∙ at_home pages q f h);
+  once = λ p q f e h. some_same (sym (at_home pages p f e) ∙ at_home pages q f h);
   below = λ p f e. (position-Some (is_page p) pages f None e).0;
 }
 

@@ -1,4 +1,3 @@
-pub mod Times
 pub mod Filed
 pub mod Homes
 pub mod Follow

@@ -1,3 +1,4 @@
+pub mod Basics
 pub mod Hex
 pub mod Stamped
 pub mod Listed
@@ -8,3 +9,4 @@ pub mod Packed
 pub mod midpoint
 pub mod Numbers
 pub mod Cuts
+pub mod Fitting

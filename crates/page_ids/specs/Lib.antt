@@ -1,6 +1,7 @@
 pub mod Size
 pub mod Same
 pub mod Chunks
+pub mod Fields
 pub mod Faults
 pub mod FrameWord
 pub mod Spelling
@@ -9,4 +10,5 @@ pub mod Content
 pub mod Layout
 pub mod Refusal
 pub mod Midpoint
+pub mod FrameLists
 pub mod Needs

@@ -2,7 +2,7 @@
 //!
 //! Numbers are big-endian. The page number stands at 4, the LSN at 16, the space at 34, and the low half of the LSN again in the last 4 bytes.
 //! Both checksums are not looked at.
-ghost use Rattle.std.specs.Prelude.{◌≡◌, ◌<◌, ◌≤◌, ◌+◌, ◌↔◌, length, OnOk, OnErr, IsOk, IfErr, IsTrue, vec_len, slice_index, EachIndex, if◌then◌else◌};
+ghost use Rattle.std.specs.Prelude.{◌≡◌, ◌⊎◌, ◌<◌, ◌≤◌, ◌+◌, ◌↔◌, ℕ, length, OnOk, OnErr, IsOk, IfErr, IsTrue, slice_index, EachIndex, if◌then◌else◌};
 ghost use Rattle.page_ids.specs.Content.{is_stamped};
 ghost use Rattle.page_ids.specs.Layout.{IsPage, IsBlank, IsSound, u32_at, u64_at};
 ghost use Rattle.page_ids.specs.Refusal.{IsBad};
@@ -19,14 +19,6 @@ pub enum BadPage {
     Space { found: u32 },
     /// The low half of the LSN differs between header and trailer: the page was written in part.
     Torn { head: u32, tail: u32 },
-}
-
-/// Whether the byte at `k` of a page of this size is stamped on writing.
-fn is_stamped_at(size: usize, k: usize) -> bool
-    requires { 46 ≤ size }
-    ensures { result ≡ is_stamped size k }
-{
-    k < 8 || (16 <= k && k < 24) || (34 <= k && k < 38) || size - 8 <= k
 }
 
 /// The number in four bytes.
@@ -60,17 +52,27 @@ fn is_blank(bytes: &[u8]) -> bool
     bytes.iter().all(|byte| *byte == 0)
 }
 
-/// Copies what is not stamped, and clears the rest.
-pub(crate) fn copy_unstamped(bytes: &[u8], out: &mut Vec<u8>)
+/// Clears the bytes from one place up to another.
+fn clear(bytes: &mut [u8], from: usize, to: usize)
+    requires { (from ≤ to) × (to ≤ length bytes.old) }
+    ensures cleared { (k : ℕ) → from ≤ k → k < to → slice_index bytes.new k ≡ 0 }
+    ensures others { (k : ℕ) → k < from ⊎ to ≤ k → slice_index bytes.new k ≡ slice_index bytes.old k }
+{
+    bytes[from..to].fill(0);
+}
+
+/// Copies the bytes of a page, and clears what is stamped among them: checksum and number, LSN, space, trailer.
+pub(crate) fn copy_unstamped(bytes: &[u8], out: &mut [u8])
     requires large { 46 ≤ length bytes.now }
-    requires size { vec_len out.old ≡ length bytes.now }
-    ensures size { length out.new.items ≡ length bytes.now }
-    ensures kept { EachIndex bytes.now (λ k. slice_index out.new.items k ≡ (if is_stamped (length bytes.now) k then 0 else slice_index bytes.now k)) }
+    requires size { length out.old ≡ length bytes.now }
+    ensures { EachIndex bytes.now (λ k. slice_index out.new k ≡ (if is_stamped (length bytes.now) k then 0 else slice_index bytes.now k)) }
 {
     let size = bytes.len();
-    for k in 0..size {
-        out[k] = if is_stamped_at(size, k) { 0 } else { bytes[k] };
-    }
+    out.copy_from_slice(bytes);
+    clear(out, 0, 8);
+    clear(out, 16, 24);
+    clear(out, 34, 38);
+    clear(out, size - 8, size);
 }
 
 /// Whether the bytes are a page of this id, and else why not.

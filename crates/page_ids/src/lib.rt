@@ -16,15 +16,15 @@ pub mod lists;
 pub mod numerals;
 pub mod writing;
 
-pub use config::Config;
+pub use config::{BadConfig, Config, Field, rounded};
 pub use faults::{Failed, OutOfMemory};
 pub use frame_word::{Word, a_step_leaves_a_packed_word, a_word_is_its_fields};
 pub use ids::{PageId, PageSize};
 pub use image::Image;
 pub use layout::{BadPage, decode};
 pub use limits::{
-    ANSWER_NEED, CREATE_NEED, FIX_NEED, GROWTH_NEED, LAST_LSN, LAST_PLACE, LIMIT, MOST_FIXES,
-    MOST_WATCHES, RECORD_BYTES,
+    ANSWER_NEED, CREATE_NEED, FIX_NEED, FRAME_NEED, GROWTH_NEED, LAST_LSN, LAST_PLACE, LIMIT,
+    MOST_BYTES, MOST_FIXES, MOST_FRAMES, MOST_WATCHES, RECORD_BYTES, ROUND_NEED,
 };
 pub use lists::{Bytes, Ids, Words};
 pub use writing::{a_page_has_one_image, an_image_has_one_page, encode};

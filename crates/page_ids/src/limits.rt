@@ -3,6 +3,12 @@
 /// The most fixes that a pass may hold in an instance.
 pub const MOST_FIXES: u32 = 64;
 
+/// The most frames that an instance may have, in all chunks that it may have.
+pub const MOST_FRAMES: u64 = 16_384;
+
+/// The most bytes that all frames of a pool may have: 2^31.
+pub const MOST_BYTES: u64 = 2_147_483_648;
+
 /// The most watches that may stand in an instance.
 pub const MOST_WATCHES: u32 = 33;
 
@@ -29,3 +35,9 @@ pub const ANSWER_NEED: u64 = 1;
 
 /// The places that a resize to more chunks needs.
 pub const GROWTH_NEED: u64 = 2;
+
+/// The places that a round of a resize to fewer chunks needs for each frame of the area: a write, an evict and a move.
+pub const FRAME_NEED: u64 = 3;
+
+/// The places that such a round needs beside those of its frames: what begins it, what ends it, and its answer.
+pub const ROUND_NEED: u64 = 3;

@@ -1,7 +1,7 @@
 //! script_text: which texts are scripts and which line of the others is bad, what a script asks for, and the program's words.
 
 use page_ids::{Bytes, Config, PageId, PageSize};
-use script_text::{Command, Program, ScriptErr, WordsErr, command_of, read_script};
+use script_text::{Command, Program, ScriptErr, WordsErr, command_of, print_script, read_script};
 use std::alloc::{AllocError, Global};
 use std::process::Abort;
 use std::test::Fail;
@@ -74,7 +74,7 @@ const BYTES: [Row; 15] = [
 ];
 
 /// The settings' ranges, each at its ends and beyond.
-const SETTINGS: [Row; 35] = [
+const SETTINGS: [Row; 40] = [
     (b"page 4096\nsize 1", None),
     (b"page 8192\nsize 1", None),
     (b"page 16384", None),
@@ -110,6 +110,11 @@ const SETTINGS: [Row; 35] = [
     (b"lsn 0", Some(1)),
     (b"lsn 9223372036854775808", Some(1)),
     (b"lsn 18446744073709551617", Some(1)),
+    (b"instances 1", None),
+    (b"instances 0", Some(1)),
+    (b"instances 17", Some(1)),
+    (b"first 0", None),
+    (b"first 281474976677888", Some(1)),
 ];
 
 /// Settings in any order, each at most once, then the thread, then commands.
@@ -122,7 +127,7 @@ const ORDER: [Row; 14] = [
     (b"lsn 8192\nmax 2\nlsn 8192", Some(3)),
     (b"page", Some(1)),
     (b"page 4096 4096", Some(1)),
-    (b"instances 1", Some(1)),
+    (b"first 0\ninstances 1\nfirst 0", Some(3)),
     (b"thread 1\nmax 2", Some(2)),
     (b"thread 1\nlsn 8192", Some(2)),
     (b"fix 0:0 1", Some(1)),
@@ -173,11 +178,15 @@ const COMMANDS: [Row; 35] = [
 ];
 
 /// What is asked of the whole, and which line is told.
-const WHOLE: [Row; 10] = [
+const WHOLE: [Row; 14] = [
     (b"frames 2\nsize 32768", None),
     (b"max 16", Some(0)),
     (b"frames 1025\nmax 16\nsize 1", Some(0)),
     (b"size 2147483648", Some(0)),
+    (b"instances 16\nsize 1", Some(0)),
+    (b"frames 1\nsize 1\ninstances 2", Some(0)),
+    (b"first 1", Some(0)),
+    (b"first 281474976677887", Some(0)),
     (b"frames 2\nsize 32769", Some(0)),
     (b"page 4096\nframes 2\nsize 16384\nmax 2", Some(0)),
     (b"max 16\nthread 2", Some(2)),
@@ -313,8 +322,48 @@ fn what_a_script_asks_for(rt: HostRuntime) -> Result<(), Fail> {
     Ok(())
 }
 
+/// Texts, and the printed forms of the scripts that they are: all settings, then the threads, without comments.
+const PRINTED: [(&[u8], &[u8]); 3] = [
+    (
+        b"thread 1\nunfix 0:1",
+        b"page 16384\ninstances 1\nframes 8192\nsize 134217728\nmax 2\nold_pct 37\nold_time 1000\nold_min 512\nlsn 8192\nfirst 0\n\
+        thread 1\nunfix 0:1\n",
+    ),
+    (
+        b"# nothing\n\nfirst 0\nmax 1\n#\n\n",
+        b"page 16384\ninstances 1\nframes 8192\nsize 134217728\nmax 1\nold_pct 37\nold_time 1000\nold_min 512\nlsn 8192\nfirst 0\n",
+    ),
+    (
+        SCRIPT,
+        b"page 4096\ninstances 1\nframes 8\nsize 16385\nmax 3\nold_pct 5\nold_time 6\nold_min 7\nlsn 9\nfirst 0\n\
+        thread 1\nfix 7:9 5\nread 7:9 38 4\nput 7:9 39 00ff\nunfix 7:9\ncreate 0:2 8\nclean 16384\ncheckpoint\n",
+    ),
+];
+
+/// The printed form of the script that a text is, behind a byte that stands there before.
+fn printed(alloc: Global, text: &[u8]) -> Result<Vec<u8>, Fail> {
+    let script = read_script(alloc, text)?;
+    let mut out = vec![in alloc; b'.'; 1]?;
+    print_script(&script, &mut out)?;
+    Ok(out)
+}
+
+#[test]
+fn what_is_printed(rt: HostRuntime) -> Result<(), Fail> {
+    let alloc = rt.alloc();
+    for (text, want) in PRINTED {
+        let mut all = Vec::from_slice(alloc, b".".as_slice())?;
+        all.extend_from_slice(want)?;
+        let once = printed(alloc, text)?;
+        assert_eq!(rt; once.as_slice(), all.as_slice());
+        let twice = printed(alloc, want)?;
+        assert_eq!(rt; twice.as_slice(), all.as_slice());
+    }
+    Ok(())
+}
+
 /// Words, and what they call for.
-const WORDS: [(&[&str], &str); 16] = [
+const WORDS: [(&[&str], &str); 20] = [
     (&["run", "0", "a", "b-"], "run 0 a b-"),
     (
         &["run", "4294967295", "file", "log"],
@@ -325,7 +374,11 @@ const WORDS: [(&[&str], &str); 16] = [
     (&["run", "0", "a"], "usage"),
     (&["run", "0", "a", "b", "c"], "usage"),
     (&["Run", "0", "a", "b"], "usage"),
-    (&["check"], "usage"),
+    (&["check"], "check"),
+    (&["check", "0"], "usage"),
+    (&["check", ""], "usage"),
+    (&["Check"], "usage"),
+    (&["-x", "check"], "usage"),
     (&["run", "", "a", "b"], "usage"),
     (&["run", "00", "a", "b"], "usage"),
     (&["run", "+1", "a", "b"], "usage"),
@@ -352,6 +405,7 @@ fn called(alloc: Global, texts: &[&str]) -> Result<String, AllocError> {
             let (file, log) = (file.as_str(), log.as_str());
             format!(in alloc; "run {space} {file} {log}")
         }
+        Ok(Program::Check) => String::from_str(alloc, "check"),
         Err(WordsErr::Usage) => String::from_str(alloc, "usage"),
         Err(WordsErr::OutOfMemory) => Err(AllocError),
     }

@@ -1,9 +1,9 @@
 -- The log's bytes and marks.
-use Rattle.std.proofs.Common.{◌≡◌, ℕ, List, [], ◌++◌, ◌+◌, ◌-◌, ◌≤◌, length, take, drop, Some, None, Option, IfSome, IsSomeAnd, Vec, refl, ap, ◌∙◌, sym, arith, append_assoc, slice_range}
+use Rattle.std.proofs.Common.{◌≡◌, ℕ, List, [], ◌++◌, ◌+◌, ◌-◌, ◌≤◌, length, take, drop, Some, None, Option, IfSome, IsSomeAnd, MatchOption, Vec, refl, ap, ◌∙◌, sym, arith, append_assoc, slice_range}
 use Rattle.std.proofs.lemmas.List.{drop_all, append-nil, take_at, length-append, length-take-le}
 use Rattle.std.specs.declared.alloc.Global.{Global}
 use Rattle.redo_mark.specs.Device.{Told, Tells, IsOpening}
-use Rattle.redo_mark.specs.Logs.{Seen, Grows, IsLater, Holds, IsKept, IsAllKept, IsKeptAt}
+use Rattle.redo_mark.specs.Logs.{Seen, Grows, IsLater, IsLonger, IsMeasured, Holds, IsKept, IsAllKept, IsKeptAt}
 use Rattle.redo_mark.specs.Pending.{IsGrown, IsLog, IsSettled, IsUncovered, IsMadeDurable, bytes_of, joined}
 use Rattle.redo_mark.proofs.Telling.{known, some_is_not_none, tells_then}
 use Rattle.redo_mark.proofs.Slices.{take_within, front_of_more, same_slice, slice_more, length-slice, three_parts, front_with}
@@ -43,6 +43,21 @@ kept_of_log first durable end opened faults (Some t) pending low ends settled =
       ap (λ k. first + k) (length-take-le opened t.kept (omega (arith, le, settled.long))),
       (let sum = length-append slice (joined pending) in omega (arith, sum, len, low, ends)),
     )
+
+-- what a log's fields measure
+pub measured_of_log : (first durable end opened faults : ℕ) (told : Option Told) (pending : List (Vec ℕ Global))
+    → first + opened ≤ durable → end ≡ durable + length (joined pending) → IfSome told (IsSettled opened (durable - first))
+    → IsMeasured (seen_of first durable end opened faults told pending)
+measured_of_log first durable end opened faults told pending low ends settled =
+    record { low = low; high = omega (arith, ends); bytes = there told settled }
+  where
+    there : (told : Option Told) → IfSome told (IsSettled opened (durable - first))
+        → IfSome (bytes_of opened (durable - first) told pending) (λ bytes. first + opened + length bytes ≡ end)
+    there None settled = tt
+    there (Some t) settled =
+        let slice = slice_range t.kept opened (durable - first) in
+        let len = length-slice opened (durable - first) t.kept settled.long in
+        let sum = length-append slice (joined pending) in omega (arith, sum, len, low, ends)
 
 -- at its opening nothing is behind the end
 pub settled_fresh : (opened durable : ℕ) (told : Option Told) → durable ≡ opened → IfSome told (λ t. opened ≤ length t.kept) → IfSome told (IsSettled opened durable)
@@ -97,6 +112,24 @@ later_appended first durable end opened faults more told pending new piece is = 
       ap (λ l. slice_range t.kept opened (durable - first) ++ l) is
           ∙ sym (append_assoc (slice_range t.kept opened (durable - first)) (joined pending) piece),
     )
+
+pub longer_appended : (first durable end opened faults : ℕ) (told : Option Told) (pending new : List (Vec ℕ Global)) (piece : List ℕ)
+    → joined new ≡ joined pending ++ piece
+    → IsLonger (seen_of first durable end opened faults told pending) (seen_of first durable (end + length piece) opened faults told new) piece
+longer_appended first durable end opened faults told pending new piece is = record {
+  first = refl;
+  opened = refl;
+  durable = refl;
+  end = refl;
+  faults = refl;
+  bytes = there told;
+}
+  where
+    there : (told : Option Told) → MatchOption (bytes_of opened (durable - first) told pending) (bytes_of opened (durable - first) told new ≡ None)
+        (λ bytes. bytes_of opened (durable - first) told new ≡ Some (bytes ++ piece))
+    there None = refl
+    there (Some t) = ap Some (ap (λ l. slice_range t.kept opened (durable - first) ++ l) is
+        ∙ sym (append_assoc (slice_range t.kept opened (durable - first)) (joined pending) piece))
 
 -- where nothing is durable by a cover, the bytes are as before
 pub bytes_uncovered : (opened durable from to : ℕ) (old new : Option Told) (pending : List (Vec ℕ Global)) → Tells old new (IsUncovered from to)

@@ -6,6 +6,14 @@ pub record Told : Type 0 where
   pub written : List ℕ
   pub kept : List ℕ
 
+-- what a log's device tells of itself: what was written and what of it is kept, where it tells; how many bytes it had at its opening, and surely has;
+-- and how often it failed
+pub record RedoSeen : Type 0 where
+  pub told : Option Told
+  pub opened : ℕ
+  pub reach : ℕ
+  pub faults : ℕ
+
 -- a device that tells goes on to tell, and what it tells has made this step; one that doesn't tell never begins
 abbrev pub Tells : Option Told → Option Told → (Told → Told → Type 0) → Type 0
 Tells old new step = MatchOption old (new ≡ None) (λ before. IsSomeAnd new (step before))
@@ -35,10 +43,10 @@ abbrev pub IsSame : Told → Told → Type 0
 IsSame old new = new ≡ old
 
 -- so many bytes the device surely has, and it is never shorter than at its opening
-pub record IsSized (opened reach : ℕ) (told : Option Told) : Type 0 where
-  pub least : opened ≤ reach
-  pub written : IfSome told (λ t. reach ≤ length t.written)
-  pub kept : IfSome told (λ t. opened ≤ length t.kept)
+pub record IsSized (device : RedoSeen) : Type 0 where
+  pub least : device.opened ≤ device.reach
+  pub written : IfSome device.told (λ t. device.reach ≤ length t.written)
+  pub kept : IfSome device.told (λ t. device.opened ≤ length t.kept)
 
 -- what a device of this length holds at its opening: nothing was written to it
 abbrev pub IsOpening : ℕ → Told → Type 0

@@ -1,5 +1,5 @@
 -- What is known of a log: how far it is durable, where it ends, and its bytes from the end of its opening on.
-use Rattle.std.specs.Prelude.{ℕ, List, [], ◌++◌, ◌≡◌, ◌≤◌, ◌+◌, ◌-◌, ◌^◌, length, take, Option, None, IfSome, MatchOption, IsSomeAnd}
+use Rattle.std.specs.Prelude.{ℕ, List, [], ◌++◌, ◌≡◌, ◌≤◌, ◌+◌, ◌-◌, ◌^◌, length, take, Option, None, Some, IfSome, MatchOption, IsSomeAnd}
 use Rattle.page_ids.specs.Faults.{Rose}
 use Rattle.redo_mark.specs.Device.{Told, Tells, IsOpening}
 use Rattle.redo_mark.specs.Records.{AreRecords}
@@ -28,6 +28,21 @@ pub record IsLater (old new : Seen) : Type 0 where
   pub end : old.end ≤ new.end
   pub faults : old.faults ≤ new.faults
   pub bytes : Grows old.bytes new.bytes
+
+-- the same log with this piece put at its end, and nothing else changed
+pub record IsLonger (old new : Seen) (piece : List ℕ) : Type 0 where
+  pub first : new.first ≡ old.first
+  pub opened : new.opened ≡ old.opened
+  pub durable : new.durable ≡ old.durable
+  pub end : new.end ≡ old.end + length piece
+  pub faults : new.faults ≡ old.faults
+  pub bytes : MatchOption old.bytes (new.bytes ≡ None) (λ bytes. new.bytes ≡ Some (bytes ++ piece))
+
+-- the durable mark lies in the log, and the log's bytes are as many as its marks say
+pub record IsMeasured (seen : Seen) : Type 0 where
+  pub low : seen.opened ≤ seen.durable
+  pub high : seen.durable ≤ seen.end
+  pub bytes : IfSome seen.bytes (λ bytes. seen.opened + length bytes ≡ seen.end)
 
 -- this piece stands in the log at this LSN
 pub record Holds (seen : Seen) (piece : List ℕ) (start : ℕ) : Type 0 where

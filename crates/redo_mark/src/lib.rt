@@ -13,8 +13,6 @@ pub mod memory;
 pub mod reading;
 pub mod record;
 pub mod redo;
-#[cfg(test)]
-mod tests;
 
 pub use calls::Calls;
 pub use device::RedoDisk;

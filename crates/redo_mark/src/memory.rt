@@ -96,13 +96,12 @@ impl RedoDisk for RedoMemory {
     ghost use Rattle.std.proofs.Common.{rules};
     ghost use Rattle.redo_mark.specs.Memory.{told_of};
 
-    ghost told = { λ m. told_of m.written.items m.kept };
-
-    ghost reach = { λ m. length m.written.items };
-
-    ghost opened = { λ m. m.opened };
-
-    ghost fault_count = { λ m. m.calls.faults };
+    ghost seen = { λ m. record {
+      told = told_of m.written.items m.kept;
+      opened = m.opened;
+      reach = length m.written.items;
+      faults = m.calls.faults;
+    } };
 
     ghost sized = { λ m. record { least = m.grown; written = Prim.search rules; kept = m.held } };
 

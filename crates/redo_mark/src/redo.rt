@@ -7,7 +7,7 @@ ghost use Rattle.std.specs.Prelude.{Err, vec_len, vec_capacity};
 ghost use Rattle.std.specs.Int.{w64, to_be_bytes};
 ghost use Rattle.redo_mark.specs.Device.{Told, Tells, IsSynced, IsSame};
 ghost use Rattle.redo_mark.specs.Records.{sealed};
-ghost use Rattle.redo_mark.specs.Logs.{IsFresh, IsLater, Holds, IsKept, IsAllKept, IsKeptAt, IsWhole, IsSpan, IsFault};
+ghost use Rattle.redo_mark.specs.Logs.{IsFresh, IsLater, IsLonger, IsMeasured, Holds, IsKept, IsAllKept, IsKeptAt, IsWhole, IsSpan, IsFault};
 ghost use Rattle.redo_mark.specs.Pending.{IsAppended, IsUncovered, IsMadeDurable, IsDraft, joined};
 
 use crate::device::RedoDisk;
@@ -95,18 +95,18 @@ impl<R: RedoDisk> Model for Redo<R> {
     ghost view = { λ r. record {
       seen = record {
         first = r.first;
-        opened = r.first + R.opened r.disk;
+        opened = r.first + (R.seen r.disk).opened;
         durable = r.durable;
         end = r.end;
-        faults = R.fault_count r.disk;
-        bytes = bytes_of (R.opened r.disk) (r.durable - r.first) (R.told r.disk) r.pending;
+        faults = (R.seen r.disk).faults;
+        bytes = bytes_of (R.seen r.disk).opened (r.durable - r.first) (R.seen r.disk).told r.pending;
       };
       disk = r.disk;
-      opening = R.told r.opening.value;
+      opening = (R.seen r.opening.value).told;
     } };
 
-    ghost invariant = { λ r. IsLog r.first r.durable r.end (R.opened r.disk) (R.reach r.disk)
-        (R.told r.opening.value) (R.told r.disk) r.pending };
+    ghost invariant = { λ r. IsLog r.first r.durable r.end (R.seen r.disk).opened (R.seen r.disk).reach
+        (R.seen r.opening.value).told (R.seen r.disk).told r.pending };
 }
 
 /// How many bytes the record in the node has but for its end LSN.
@@ -149,17 +149,17 @@ fn write_all<R: RedoDisk>(
     from: u64,
     pending: &LinkedList<Vec<u8>>,
 ) -> Result<(), Fault>
-    requires within { from ≤ R.reach disk.old }
+    requires within { from ≤ (R.seen disk.old).reach }
     requires limit { from + length (joined pending.now) ≤ 2 ^ 63 }
-    ensures ok { OnOk result (Tells (R.told disk.old) (R.told disk.new) (IsAppended from (joined pending.now))) }
-    ensures err { OnErr result (Tells (R.told disk.old) (R.told disk.new)
+    ensures ok { OnOk result (Tells (R.seen disk.old).told (R.seen disk.new).told (IsAppended from (joined pending.now))) }
+    ensures err { OnErr result (Tells (R.seen disk.old).told (R.seen disk.new).told
         (IsUncovered from (from + length (joined pending.now)))) }
-    ensures reach { R.reach disk.old ≤ R.reach disk.new }
-    ensures reached { OnOk result (from + length (joined pending.now) ≤ R.reach disk.new) }
-    ensures opened { R.opened disk.new ≡ R.opened disk.old }
-    ensures later { R.fault_count disk.old ≤ R.fault_count disk.new }
-    ensures fault { IfErr result (λ f. IsFault (R.fault_count disk.old) (R.fault_count disk.new) f.before f.after
-        × (f.after ≡ R.fault_count disk.new)) }
+    ensures reach { (R.seen disk.old).reach ≤ (R.seen disk.new).reach }
+    ensures reached { OnOk result (from + length (joined pending.now) ≤ (R.seen disk.new).reach) }
+    ensures opened { (R.seen disk.new).opened ≡ (R.seen disk.old).opened }
+    ensures later { (R.seen disk.old).faults ≤ (R.seen disk.new).faults }
+    ensures fault { IfErr result (λ f. IsFault (R.seen disk.old).faults (R.seen disk.new).faults f.before f.after
+        × (f.after ≡ (R.seen disk.new).faults)) }
 {
     let mut at = from;
     for bytes in pending.iter() {
@@ -175,13 +175,13 @@ fn write_all<R: RedoDisk>(
 
 /// Syncs the device.
 fn sync<R: RedoDisk>(disk: &mut R) -> Result<(), Fault>
-    ensures ok { OnOk result (Tells (R.told disk.old) (R.told disk.new) IsSynced) }
-    ensures err { OnErr result (Tells (R.told disk.old) (R.told disk.new) IsSame) }
-    ensures reach { R.reach disk.old ≤ R.reach disk.new }
-    ensures opened { R.opened disk.new ≡ R.opened disk.old }
-    ensures later { R.fault_count disk.old ≤ R.fault_count disk.new }
-    ensures fault { IfErr result (λ f. IsFault (R.fault_count disk.old) (R.fault_count disk.new) f.before f.after
-        × (f.after ≡ R.fault_count disk.new)) }
+    ensures ok { OnOk result (Tells (R.seen disk.old).told (R.seen disk.new).told IsSynced) }
+    ensures err { OnErr result (Tells (R.seen disk.old).told (R.seen disk.new).told IsSame) }
+    ensures reach { (R.seen disk.old).reach ≤ (R.seen disk.new).reach }
+    ensures opened { (R.seen disk.new).opened ≡ (R.seen disk.old).opened }
+    ensures later { (R.seen disk.old).faults ≤ (R.seen disk.new).faults }
+    ensures fault { IfErr result (λ f. IsFault (R.seen disk.old).faults (R.seen disk.new).faults f.before f.after
+        × (f.after ≡ (R.seen disk.new).faults)) }
 {
     let before = disk.faults();
     if disk.sync().is_err() {
@@ -197,17 +197,17 @@ fn write_through<R: RedoDisk>(
     from: u64,
     pending: &LinkedList<Vec<u8>>,
 ) -> Result<(), Fault>
-    requires within { from ≤ R.reach disk.old }
+    requires within { from ≤ (R.seen disk.old).reach }
     requires limit { from + length (joined pending.now) ≤ 2 ^ 63 }
-    ensures ok { OnOk result (Tells (R.told disk.old) (R.told disk.new) (IsMadeDurable from (joined pending.now))) }
-    ensures err { OnErr result (Tells (R.told disk.old) (R.told disk.new)
+    ensures ok { OnOk result (Tells (R.seen disk.old).told (R.seen disk.new).told (IsMadeDurable from (joined pending.now))) }
+    ensures err { OnErr result (Tells (R.seen disk.old).told (R.seen disk.new).told
         (IsUncovered from (from + length (joined pending.now)))) }
-    ensures reach { R.reach disk.old ≤ R.reach disk.new }
-    ensures reached { OnOk result (from + length (joined pending.now) ≤ R.reach disk.new) }
-    ensures opened { R.opened disk.new ≡ R.opened disk.old }
-    ensures later { R.fault_count disk.old ≤ R.fault_count disk.new }
-    ensures fault { IfErr result (λ f. IsFault (R.fault_count disk.old) (R.fault_count disk.new) f.before f.after
-        × (f.after ≡ R.fault_count disk.new)) }
+    ensures reach { (R.seen disk.old).reach ≤ (R.seen disk.new).reach }
+    ensures reached { OnOk result (from + length (joined pending.now) ≤ (R.seen disk.new).reach) }
+    ensures opened { (R.seen disk.new).opened ≡ (R.seen disk.old).opened }
+    ensures later { (R.seen disk.old).faults ≤ (R.seen disk.new).faults }
+    ensures fault { IfErr result (λ f. IsFault (R.seen disk.old).faults (R.seen disk.new).faults f.before f.after
+        × (f.after ≡ (R.seen disk.new).faults)) }
 {
     write_all(disk, from, pending)?;
     sync(disk)
@@ -216,10 +216,10 @@ fn write_through<R: RedoDisk>(
 impl<R: RedoDisk> Redo<R> {
     /// The log on a device, all of it durable. `first` is the LSN of the device's first byte.
     pub fn start(alloc: Global, disk: R, first: u64) -> Result<Redo<R>, (OutOfMemory, R)>
-        requires limit { first + R.opened disk ≤ 2 ^ 63 }
-        ensures fresh { IfOk result (λ r. IsFresh r.seen first (R.opened disk) (R.fault_count disk)) }
-        ensures kept { IfOk result (λ r. IsKept r.seen (R.told r.disk)) }
-        ensures disk { IfOk result (λ r. (r.disk ≡ disk) × (r.opening ≡ R.told disk)) }
+        requires limit { first + (R.seen disk).opened ≤ 2 ^ 63 }
+        ensures fresh { IfOk result (λ r. IsFresh r.seen first (R.seen disk).opened (R.seen disk).faults) }
+        ensures kept { IfOk result (λ r. IsKept r.seen (R.seen r.disk).told) }
+        ensures disk { IfOk result (λ r. (r.disk ≡ disk) × (r.opening ≡ (R.seen disk).told)) }
         ensures err { IfErr result (λ e. e.1 ≡ disk) }
     {
         let end = first + disk.end();
@@ -240,8 +240,9 @@ impl<R: RedoDisk> Redo<R> {
     pub fn append(&mut self, draft: Draft) -> Result<Span, LogSpent>
         ensures span { IfOk result (IsSpan self.old.seen.end self.new.seen.end (length draft + 8)) }
         ensures record { IfOk result (λ s. Holds self.new.seen (sealed draft s.start) s.start) }
+        ensures exact { IfOk result (λ s. (s.start ≡ self.old.seen.end) × IsLonger self.old.seen self.new.seen (sealed draft s.start)) }
         ensures later { IsLater self.old.seen self.new.seen }
-        ensures kept { IsKept self.new.seen (R.told self.new.disk) }
+        ensures kept { IsKept self.new.seen (R.seen self.new.disk).told }
         ensures whole { IsWhole self.new.seen }
         ensures disk { (self.new.disk ≡ self.old.disk) × (self.new.opening ≡ self.old.opening) }
         ensures mark { self.new.seen.durable ≡ self.old.seen.durable }
@@ -273,7 +274,7 @@ impl<R: RedoDisk> Redo<R> {
     /// durable, and the same bytes are written again next time, at the same places.
     pub fn cover(&mut self, lsn: u64) -> Result<Covered, CoverErr>
         ensures ok { IfOk result (λ c. (c ≡ self.new.seen.durable) × (lsn ≤ c) × (c ≤ self.new.seen.end)) }
-        ensures kept { IsKept self.new.seen (R.told self.new.disk) }
+        ensures kept { IsKept self.new.seen (R.seen self.new.disk).told }
         ensures whole { IsWhole self.new.seen }
         ensures later { IsLater self.old.seen self.new.seen }
         ensures opening { self.new.opening ≡ self.old.opening }
@@ -318,18 +319,32 @@ impl<R: RedoDisk> Redo<R> {
         self.end
     }
 
+    /// The marks measure the log. It does nothing.
+    pub fn is_measured(&self)
+        ensures { IsMeasured self.now.seen }
+    {
+        let _ = &self.end;
+    }
+
+    /// The device's count of faults.
+    pub fn faults(&self) -> u64
+        ensures { result ≡ self.now.seen.faults }
+    {
+        self.disk.faults()
+    }
+
     /// Ends the log and hands its device back. Records that are not durable are dropped.
     pub fn close(self) -> RedoEnd<R>
         ensures disk { result.disk ≡ self.disk }
-        ensures opened { self.seen.opened ≡ self.seen.first + R.opened result.disk }
-        ensures faults { self.seen.faults ≡ R.fault_count result.disk }
+        ensures opened { self.seen.opened ≡ self.seen.first + (R.seen result.disk).opened }
+        ensures faults { self.seen.faults ≡ (R.seen result.disk).faults }
         ensures end { result.end ≡ self.seen.end }
         ensures durable { (result.durable ≡ self.seen.durable) × (result.durable ≤ result.end) }
-        ensures kept { IsKept self.seen (R.told result.disk) }
+        ensures kept { IsKept self.seen (R.seen result.disk).told }
         ensures whole { IsWhole self.seen }
-        ensures all { IsAllKept (R.opened result.disk) self.opening self.seen (R.told result.disk) }
+        ensures all { IsAllKept (R.seen result.disk).opened self.opening self.seen (R.seen result.disk).told }
         ensures records { (piece : List ℕ) (start : ℕ) → Holds self.seen piece start → start + length piece ≤ result.durable
-            → IsKeptAt self.seen.first piece start (R.told result.disk) }
+            → IsKeptAt self.seen.first piece start (R.seen result.disk).told }
     {
         let Redo {
             disk,

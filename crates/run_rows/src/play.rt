@@ -81,7 +81,7 @@ pub(crate) fn play(rt: &HostRuntime, alloc: Global, given: Given) -> Result<Play
         log: log_calls,
     } = failing;
     let mut disks = Vec::new(alloc);
-    disks.push(disk_of(alloc, size, pages, told, disk)?)?;
+    disks.push(Some(disk_of(alloc, size, pages, told, disk)?))?;
     let mut shelf = MemoryShelf::new(disks, RedoMemory::new(log, log_calls), shelf);
     let mut source = SourceMemory::new(script, source);
     let mut out = Narrow {

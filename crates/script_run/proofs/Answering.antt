@@ -1,12 +1,15 @@
 -- How the parts of a run make its answer.
-use Rattle.std.proofs.Common.{◌≡◌, ◌≢◌, ◌≤◌, ◌<◌, ◌+◌, ◌^◌, ℕ, Bool, true, false, ◌||◌, List, [], ◌++◌, ◌⊎◌, inl, inr, Option, Some, None, IfSome, IsSomeAnd, length, refl, ap, ◌∙◌, sym, subst, arith, length-append, reverse}
+use Rattle.std.proofs.Common.{◌≡◌, ◌≢◌, ◌≤◌, ◌<◌, ◌+◌, ◌^◌, ℕ, Bool, true, false, IsTrue, ◌||◌, List, [], ◌++◌, ◌⊎◌, inl, inr, Option, Some, None, IfSome, IsSomeAnd, length, refl, ap, ◌∙◌, sym, subst, arith, length-append, reverse}
 use Rattle.std.specs.Prelude.{unwrap_or, IsSome}
+use Rattle.std.proofs.lemmas.Bool.{false≢true}
 use Rattle.page_ids.specs.Content.{Content}
 use Rattle.page_ids.specs.Size.{page_bytes}
+use Rattle.page_ids.specs.declared.config.Config.{Config}
 use Rattle.page_ids.specs.declared.ids.PageId.{PageId}
 use Rattle.page_disk.specs.Disks.{DiskSeen, pages_in}
+use Rattle.page_disk.specs.Shelves.{Asked, unasked, IsAskedFor, IsAskedForLog, OfferedDisk, OfferedLog, IsAsOffered, IsLogAsOffered}
 use Rattle.page_disk.specs.declared.shelf.FaultAt.{FaultAt}
-use Rattle.redo_mark.specs.Device.{Told}
+use Rattle.redo_mark.specs.Device.{Told, RedoSeen}
 use Rattle.redo_mark.specs.declared.redo.RedoEnd.{RedoEnd}
 use Rattle.trail.specs.Trails.{Events, entries}
 use Rattle.trail.specs.History.{value}
@@ -14,7 +17,7 @@ use Rattle.trail.specs.Saved.{is_written, saved}
 use Rattle.desk.specs.Base.{IsBase}
 use Rattle.script_text.specs.Plan.{Plan}
 use Rattle.script_text.specs.Verdict.{IsScript, IsBad}
-use Rattle.script_run.specs.Runs.{Handed, handed, start_of, Reports, IsEndedRun, IsLogOf, IsLogAsOpened, IsLongLog, IsSavedPage, IsValuedPage}
+use Rattle.script_run.specs.Runs.{disk_as, log_as, start_of, IsEndedRun, IsLogOf, IsLogAsOpened, IsLongLog, IsSavedPage, IsValuedPage}
 use Rattle.script_run.proofs.Growing.{on_some}
 use Rattle.script_run.proofs.Progress.{append_nil}
 use Rattle.script_run.proofs.Values.{faults_wider}
@@ -30,14 +33,14 @@ low_end (Some n) count is = omega (arith, is)
 told_base : (told was : PageId → Option (List ℕ)) (pages : ℕ → ℕ) (first : PageId → Option Content) → ((p : PageId) → told p ≡ was p) → IsBase was pages first → IsBase told pages first
 told_base told was pages first same is_base p inside = let given = is_base p inside in record { bytes = given.bytes; tells = same p ∙ given.tells; content = given.content }
 
--- the run of what a shelf handed out, told by the shelf
-pub ended_run : {D R : Type 0} (seen : D → DiskSeen) (report : Reports R) (shelf : Handed) (disk : D) (log : R) (plan : Plan) (fault : Option FaultAt) (trails : List Events) (disks : List D) (redo : Option (RedoEnd R))
-    → IsEndedRun (handed (seen disk).told (Some (seen disk).spaces) (Some (seen disk).faults) (report.told log) (Some (report.faults log))) seen report plan fault trails disks redo
-    → ((p : PageId) → (seen disk).told p ≡ shelf.told p) → IfSome shelf.spaces (λ known. (s : ℕ) → (seen disk).spaces s ≡ known s) → IfSome shelf.disk_faults (λ n. (seen disk).faults ≡ n)
-    → report.told log ≡ shelf.log → IfSome shelf.log_faults (λ n. report.faults log ≡ n)
-    → IsEndedRun shelf seen report plan fault trails disks redo
-ended_run {D} {R} seen report shelf disk log plan fault trails disks redo is tells spaces faults log_is log_faults =
-    let W : Option Told → Type 0 = λ t. IsLogOf plan.config.lsn t report is.end fault (entries (reverse is.trail.events)) in
+-- the run on a disk and a log, told by what the shelf offered
+pub ended_run : {D R : Type 0} (seen : D → DiskSeen) (log_seen : R → RedoSeen) (given : OfferedDisk) (given_log : OfferedLog) (disk : D) (log : R) (plan : Plan) (fault : Option FaultAt) (trails : List Events) (disks : List D) (redo : Option (RedoEnd R))
+    → IsEndedRun (disk_as (seen disk)) (log_as (log_seen log)) seen log_seen plan fault trails disks redo
+    → IsAsOffered given (seen disk) → IsLogAsOffered given_log (log_seen log)
+    → IsEndedRun given given_log seen log_seen plan fault trails disks redo
+ended_run {D} {R} seen log_seen given given_log disk log plan fault trails disks redo is offered offered_log =
+    let tells = offered.told in
+    let W : Option Told → Type 0 = λ t. IsLogOf plan.config.lsn t log_seen is.end fault (entries (reverse is.trail.events)) in
     record {
       trail = is.trail;
       disk = is.disk;
@@ -45,12 +48,12 @@ ended_run {D} {R} seen report shelf disk log plan fault trails disks redo is tel
       trails_are = is.trails_are;
       disks_are = is.disks_are;
       log_is = is.log_is;
-      run = λ base based. is.run base (on_some base _ _ (λ first e is_base. told_base (seen disk).told shelf.told (pages_in (seen is.disk).spaces) first tells is_base) based);
-      faults = faults_wider (start_of shelf (pages_in (seen is.disk).spaces)) (record { told = (seen disk).told; pages = pages_in (seen is.disk).spaces; disk_faults = (seen disk).faults; log_faults = report.faults log }) (seen is.disk).faults (report.faults is.end.disk) (seen is.disk).faults (report.faults is.end.disk) _
-          (record { disk = low_end shelf.disk_faults (seen disk).faults faults; log = low_end shelf.log_faults (report.faults log) log_faults }) (omega arith) (omega arith) is.faults;
-      spaces_are = on_some shelf.spaces _ _ (λ known e here s. is.spaces_are s ∙ here s) spaces;
+      run = λ base based. is.run base (on_some base _ _ (λ first e is_base. told_base (seen disk).told given.told (pages_in (seen is.disk).spaces) first tells is_base) based);
+      faults = faults_wider (start_of given given_log (pages_in (seen is.disk).spaces)) (start_of (disk_as (seen disk)) (log_as (log_seen log)) (pages_in (seen is.disk).spaces)) (seen is.disk).faults (log_seen is.end.disk).faults (seen is.disk).faults (log_seen is.end.disk).faults _
+          (record { disk = low_end given.faults (seen disk).faults offered.faults; log = low_end given_log.faults (log_seen log).faults offered_log.faults }) (omega arith) (omega arith) is.faults;
+      spaces_are = on_some given.spaces _ _ (λ known e here s. is.spaces_are s ∙ here s) offered.spaces;
       holds = λ base is_base.
-          let held = is.holds base (told_base (seen disk).told shelf.told (pages_in (seen is.disk).spaces) base tells is_base) in
+          let held = is.holds base (told_base (seen disk).told given.told (pages_in (seen is.disk).spaces) base tells is_base) in
           let h = entries (reverse is.trail.events) in
           let size = page_bytes plan.config.page in
           record {
@@ -58,14 +61,14 @@ ended_run {D} {R} seen report shelf disk log plan fault trails disks redo is tel
             told = λ p inside clean there. let S : Option (List ℕ) → Type 0 = λ t. IsSome t in held.told p inside clean (subst S (sym (tells p)) there);
             whole = λ fine p inside. on_some ((seen is.disk).told p) _ _ (λ bytes e page. let P : Option (List ℕ) → Type 0 = λ t. IsValuedPage t (value size base h p) p bytes in subst P (tells p) page) (held.whole fine p inside);
           };
-      logs = subst W log_is is.logs;
+      logs = subst W offered_log.told is.logs;
     }
 
 -- a log that is too long was handed back
-pub long_log : {R : Type 0} (left : Option (List ℕ)) (was : Option Told) (report : Reports R) (line : ℕ) (log : Option (RedoEnd R)) (plan : Plan) → ((bytes : List ℕ) → left ≡ Some bytes → IsScript bytes plan) → line ≡ 0
-    → IsSomeAnd log (λ r. IsLogAsOpened was report r × (2 ^ 63 < plan.config.lsn + r.end)) → IsLongLog left was report line log
-long_log left was report line None plan script whole is = absurd is
-long_log left was report line (Some end) plan script whole is = record { plan = plan; script = script; end = end; log_is = refl; whole = whole; opened = is.0; beyond = is.1 }
+pub long_log : {R : Type 0} (left : Option (List ℕ)) (was : Option Told) (log_seen : R → RedoSeen) (line : ℕ) (log : Option (RedoEnd R)) (plan : Plan) → ((bytes : List ℕ) → left ≡ Some bytes → IsScript bytes plan) → line ≡ 0
+    → IsSomeAnd log (λ r. IsLogAsOpened was log_seen r × (2 ^ 63 < plan.config.lsn + r.end)) → IsLongLog left was log_seen line log
+long_log left was log_seen line None plan script whole is = absurd is
+long_log left was log_seen line (Some end) plan script whole is = record { plan = plan; script = script; end = end; log_is = refl; whole = whole; opened = is.0; beyond = is.1 }
 
 pub not_seven : (s : ℕ) → s ≡ 5 → s ≢ 7
 not_seven s five seven = absurd (omega (arith, five, seven))
@@ -98,3 +101,31 @@ pub bad_all : (bytes all rest : List ℕ) (n : ℕ) → bytes ≡ all ++ rest �
 bad_all bytes all rest n whole (inl none) bad = let B : List ℕ → Type 0 = λ b. IsBad b n in subst B (whole ∙ ap (λ r. all ++ r) none ∙ append_nil all) bad
 bad_all bytes all rest n whole (inr long) (inl (zero_is, why)) = inl (zero_is, inl (omega (arith, long)))
 bad_all bytes all rest n whole (inr long) (inr (short, line)) = let m = ap (length {A = ℕ}) whole in let k = length-append all rest in absurd (omega (arith, long, short, m, k))
+
+is_false : (b : Bool) → (IsTrue b → ⊥) → b ≡ false
+is_false true never = absurd (never refl)
+is_false false never = refl
+
+-- a shelf without earlier calls that was asked for the disk of instance 0 and then for the log
+pub asked_once : (config : Config) (old mid new : Asked) → IsAskedFor config 0 old mid → IsAskedForLog config mid new → old ≡ unasked
+    → new ≡ record { config = Some config; disks = 1; log = true; strayed = false }
+asked_once config old mid new a b fresh =
+    let d : IsAskedFor config 0 unasked mid = subst (λ (o : Asked). IsAskedFor config 0 o mid) fresh a in
+    let config_is : new.config ≡ Some config = b.first ∙ ap (λ (m : Option Config). Some (unwrap_or m config)) d.first in
+    let same : config ≡ unwrap_or mid.config config = sym (ap (λ (m : Option Config). unwrap_or m config) d.first) in
+    let calm : IsTrue mid.strayed → ⊥ = λ is. no_reason config 0 (d.strayed.0 is) in
+    let none : IsTrue mid.log → ⊥ = subst (λ (x : Bool). IsTrue x → ⊥) (sym d.log) false≢true in
+    let strayed : new.strayed ≡ false = is_false new.strayed (λ is. no_more config mid.config mid.strayed mid.log same calm none (b.strayed.0 is)) in
+    λ i. record { config = config_is i; disks = (b.disks ∙ d.disks) i; log = b.log i; strayed = strayed i }
+  where
+    no_reason : (config : Config) (instance : ℕ) → IsTrue false ⊎ (config ≢ unwrap_or None config) ⊎ (instance ≢ instance) ⊎ IsTrue false → ⊥
+    no_reason config instance (inl before) = false≢true before
+    no_reason config instance (inr (inl other)) = other refl
+    no_reason config instance (inr (inr (inl another))) = another refl
+    no_reason config instance (inr (inr (inr log))) = false≢true log
+
+    no_more : (config : Config) (first : Option Config) (strayed log : Bool) → config ≡ unwrap_or first config → (IsTrue strayed → ⊥) → (IsTrue log → ⊥)
+        → IsTrue strayed ⊎ (config ≢ unwrap_or first config) ⊎ IsTrue log → ⊥
+    no_more config first strayed log same calm none (inl before) = calm before
+    no_more config first strayed log same calm none (inr (inl other)) = other same
+    no_more config first strayed log same calm none (inr (inr behind)) = none behind

@@ -137,10 +137,10 @@ pub next_by : (mine : List Event) (n : ℕ) → IsCalling mine n [] → n ≡ ca
 next_by mine n c = sym c.count
 
 -- the entries of a lawful trail are numbered by their places
-pub numbered_entries : (o : Opening) (past : List Event) → AreLawful o past → AreNumbered o.first (entries past)
-numbered_entries o [] good = tt
-numbered_entries o (event.Entry e ∷ past) good = (good.0.legal.place, numbered_entries o past good.1)
-numbered_entries o (event.Receipt r ∷ past) good = numbered_entries o past good.1
+pub numbered_entries : (sole : Option ℕ) (o : Opening) (past : List Event) → AreLawful o sole past → AreNumbered o.first (entries past)
+numbered_entries sole o [] good = tt
+numbered_entries sole o (event.Entry e ∷ past) good = (good.0.legal.place, numbered_entries _ o past good.1)
+numbered_entries sole o (event.Receipt r ∷ past) good = numbered_entries _ o past good.1
 
 -- the call's entries are the newest of the history
 pub together_by : (first : ℕ) (pending base h : List Entry) → h ≡ pending ++ base → IsTogether (mark first h + 1) pending

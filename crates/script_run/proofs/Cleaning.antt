@@ -3,6 +3,7 @@ use Rattle.std.proofs.Common.{◌≡◌, ℕ, List, [], ◌∷◌, ◌++◌, ◌
 use Rattle.std.specs.Prelude.{unwrap_or}
 use Rattle.page_disk.specs.Disks.{DiskSeen}
 use Rattle.redo_mark.specs.Logs.{Seen}
+use Rattle.trail.proofs.Judging.{unasked, with_words, words_of}
 use Rattle.trail.specs.declared.event.Dirty.{Dirty}
 use Rattle.trail.specs.declared.event.Entry.{Entry}
 use Rattle.trail.specs.declared.event.Held.{Held}
@@ -49,7 +50,7 @@ module _ {D : Type 0} (seen : D → DiskSeen) (o : Opening) (start : Start) (old
       let E : List Entry → Type 0 = λ h. AreFaultsWithin start (seen new.disk).faults is.faults h in
       let W : ℕ → List Entry → Type 0 = λ first h. WritesBack first (me w) n h cleaned.mid in
       let F : ℕ → Type 0 = λ first. W first old.history in
-      flushed (me w) o start (seen new.disk).faults is.faults past n cleaned.mid front so.good so.promised so.calls
+      flushed (me w) o start (seen new.disk).faults is.faults past n cleaned.mid front (unasked o (Some w.pass) past so.good) so.promised so.calls
       (subst E (sym so.entries_are) (faults_up start (seen old.disk).faults was.faults (seen new.disk).faults is.faults old.history moves.left.later moves.later so.faults))
       (subst (W o.first) (sym so.entries_are) (subst F so.first_is cleaned.writes))
 
@@ -62,7 +63,7 @@ module _ {D : Type 0} (seen : D → DiskSeen) (o : Opening) (start : Start) (old
   -- what is so between the last of them and the answer
   so_far_writes : (n : ℕ) (mid : List Entry) (f : Wrote n mid) → IsLogged is mid → SoFar seen o start (placed old new mid) is w (f.writes ++ past) f.made
   so_far_writes n mid f logged = record {
-    good = f.good;
+    good = with_words o None (Some w.pass) (f.writes ++ past) f.good (f.exact (Some w.pass) (words_of o (Some w.pass) past so.good));
     promised = f.promised;
     entries_are = f.entries_are;
     receipts_are = f.receipts_are ∙ so.receipts_are;
@@ -81,7 +82,6 @@ module _ {D : Type 0} (seen : D → DiskSeen) (o : Opening) (start : Start) (old
     held = f.held w.pass ∙ so.held;
     falling = so.falling;
     alone = f.alone so.alone;
-    exact = f.exact (Some w.pass) so.exact;
   }
 
   room_here : mark old.config.first old.history + 16385 ≤ LIMIT → mark o.first (entries past) + 16385 ≤ LIMIT

@@ -18,7 +18,6 @@ use Rattle.trail.specs.Book.{Book, book_after}
 use Rattle.trail.specs.History.{disk_faults, log_faults}
 use Rattle.trail.specs.Dirt.{dirty, pages_of}
 use Rattle.trail.specs.Calls.{before_call, made as made_by}
-use Rattle.trail.specs.Words.{words_told}
 use Rattle.trail.specs.Victim.{IsVictimKind}
 use Rattle.trail.specs.Preceding.{MayPrecede, AreWrites, kinds}
 use Rattle.trail.specs.Legal.{IsLegalKind, cleaned_first, written_pages}
@@ -27,7 +26,7 @@ use Rattle.trail.specs.Still.{IsUnfixed}
 use Rattle.trail.specs.Covered.{IsCoveredWrite}
 use Rattle.trail.specs.Causes.{IsCausedKind, IsReached}
 use Rattle.trail.specs.Withdrawal.{IsWithdrawalKind}
-use Rattle.trail.specs.Alone.{IsTrueKind, ends_clean}
+use Rattle.trail.specs.Alone.{IsTrueKind}
 use Rattle.trail.specs.Promises.{IsBegun, IsOfSpaces, IsPromisedKind}
 use Rattle.trail.proofs.LookUps.{all_came, none_passed}
 use Rattle.desk.specs.declared.calls.Caller.{Caller}
@@ -45,12 +44,10 @@ pub record Closes (by : Caller) (start : Start) (disk log : ℕ) (o : Opening) (
   pub legal : IsLegalKind o (entries past) (own by.pass past) by.pass by.number k
   pub still : IfSome (departure_in k) (λ d. IsUnfixed past d.page)
   pub covered : IfSome (write_in k) (λ v. IsCoveredWrite (entries past) v.page v.lsn v.upto)
-  pub causes : IsCausedKind o (entries past) (own by.pass past) by.pass by.number k
+  pub causes : IsCausedKind o past (entries past) (own by.pass past) by.pass by.number k
   pub victim : IsVictimKind o.config (entries past) by.pass by.number k
   pub withdrawal : IsWithdrawalKind o.config (entries past) by.pass by.number k
   pub exact : (h : List Entry) (held : List Held) → IsTrueKind h held k
-  pub wordless : words_told k ≡ []
-  pub ends : ends_clean k ≡ true
   pub promised : IsOfSpaces start.pages k × IsPromisedKind o (entries past) (made_by by.number (own by.pass past)) k
   pub within : IsKindWithin start disk log k
   pub steady : leaves_chunks k ≡ true
@@ -58,7 +55,7 @@ pub record Closes (by : Caller) (start : Start) (disk log : ℕ) (o : Opening) (
 
 refused_closes : (by : Caller) (start : Start) (disk_was disk_is log_was log_is : ℕ) (o : Opening) (past : List Event) (bound : ℕ) (log : Bool) (before after : ℕ) → start.disk_faults ≤ disk_was → start.log_faults ≤ log_was
     → disk_faults (entries past) ≤ disk_was → log_faults (entries past) ≤ log_was → Rose before after → RoseSo log disk_was disk_is log_was log_is before after
-    → IsReached o (entries past) (made_by by.number (own by.pass past)) by.pass by.number (call.Clean bound)
+    → IsReached o past (entries past) (made_by by.number (own by.pass past)) by.pass by.number (call.Clean bound)
     → IsBegun (entries past) (made_by by.number (own by.pass past)) bound → Closes by start disk_is log_is o past (kind.Refused (call.Clean bound) (fault_cause log before after))
 refused_closes by start disk_was disk_is log_was log_is o past bound true before after low low_log last last_log rose counts reached begun = record {
   answers = refl;
@@ -70,8 +67,6 @@ refused_closes by start disk_was disk_is log_was log_is o past bound true before
   victim = tt;
   withdrawal = tt;
   exact = λ h held. record { words = tt; tag = tt; free = refl };
-  wordless = refl;
-  ends = refl;
   promised = (record { inside = tt; told = tt }, record { own = refl; filed = refl; excused = tt; rising = tt; begun = begun });
   within = (omega (arith, low_log, counts.first), omega (arith, counts.last));
   steady = refl;
@@ -87,8 +82,6 @@ refused_closes by start disk_was disk_is log_was log_is o past bound false befor
   victim = tt;
   withdrawal = tt;
   exact = λ h held. record { words = tt; tag = tt; free = refl };
-  wordless = refl;
-  ends = refl;
   promised = (record { inside = tt; told = tt }, record { own = refl; filed = refl; excused = tt; rising = tt; begun = begun });
   within = (omega (arith, low, counts.first), omega (arith, counts.last));
   steady = refl;
@@ -123,11 +116,11 @@ module _ (by : Caller) (start : Start) where
   began_at : (disk log : ℕ) (o : Opening) (past : List Event) (n : ℕ) (mid : List Entry) (f : Flushed by o start disk log past n mid)
       → before_call (made_by by.number (own by.pass (f.writes ++ past))) (entries (f.writes ++ past)) ≡ entries past
   began_at disk log o past n mid f = ap (λ l. before_call l (entries (f.writes ++ past))) (made_is disk log o past n mid f)
-      ∙ before_by o.first f.made (entries past) (entries (f.writes ++ past)) (f.entries_are ∙ f.began) (numbered_entries o (f.writes ++ past) f.good)
+      ∙ before_by o.first f.made (entries past) (entries (f.writes ++ past)) (f.entries_are ∙ f.began) (numbered_entries _ o (f.writes ++ past) f.good)
 
   -- the places of a clean are left, of so many pages at most
   reached_clean : (disk log : ℕ) (o : Opening) (past : List Event) (n : ℕ) (mid : List Entry) (f : Flushed by o start disk log past n mid) (bound : ℕ) → bound ≤ 16384
-      → mark o.first (entries past) + 16385 ≤ LIMIT → IsReached o (entries (f.writes ++ past)) (made_by by.number (own by.pass (f.writes ++ past))) by.pass by.number (call.Clean bound)
+      → mark o.first (entries past) + 16385 ≤ LIMIT → IsReached o (f.writes ++ past) (entries (f.writes ++ past)) (made_by by.number (own by.pass (f.writes ++ past))) by.pass by.number (call.Clean bound)
   reached_clean disk log o past n mid f bound most room =
       let H : List Entry → Type 0 = λ h. HasPlaces o.first o.config h by.pass by.number (call.Clean bound) in
       let need : clean_need bound (length (dirty (entries past))) ≤ 16385 = needs bound (length (dirty (entries past))) most in
@@ -164,9 +157,7 @@ module _ (by : Caller) (start : Start) where
         causes = record { reached = reached_clean disk log o past n mid f n most room; none_due = refl };
         victim = tt;
         withdrawal = tt;
-        exact = λ h held. tt;
-        wordless = refl;
-        ends = refl;
+        exact = λ h held. refl;
         promised = (record { inside = tt; told = tt }, tt);
         within = tt;
         steady = refl;

@@ -19,9 +19,12 @@ use Rattle.frame_words.specs.Plain.{Plain}
 use Rattle.frame_words.specs.Rows.{Row}
 use Rattle.desk.specs.State.{State}
 use Rattle.desk.specs.Steps.{next_entry, row_in}
-use Rattle.desk.specs.Ledger.{IsVacant}
+use Rattle.instance_lists.specs.Ledger.{IsVacant}
+use Rattle.desk.specs.Answers.{Creates}
+use Rattle.desk.specs.Moments.{Moment}
 use Rattle.desk.specs.Creating.{IsCreatedBy, IsMade, IsCreateRefusal, blank_at, made_row}
 use Rattle.desk.specs.declared.calls.Granted.{Granted}
+use Rattle.desk.specs.declared.calls.Caller.{Caller}
 use Rattle.desk.specs.declared.calls.CreateErr.{CreateErr}
 use Rattle.desk.specs.declared.calls.CreateErr.TheVariants as refusal
 use Rattle.script_text.specs.declared.script.Command.TheVariants as command
@@ -65,6 +68,12 @@ pub made_along : {D : Type 0} (seen : D → DiskSeen) (old new : State D) (befor
 made_along seen old new before after was is w p now g fixes few by =
     along_of seen old new before after was is w (kind.Create p g.frame by.start (by.start + 21) now) fixes.left fixes.grown
     (λ ready. (stays_made by.had new w p now by.start g by.made (stays_had seen old by.had before w g.frame ready by.frame_is), omega (arith, few))) fixes.behind fixes.tied fixes.later fixes.known
+
+-- why no page was made
+pub why_unmade : {D : Type 0} (seen : D → DiskSeen) (m n : Moment D) (by : Caller) (held : ℕ) (p : PageId) (now : ℕ) (answer : Result Granted CreateErr) → Creates seen m n by held p now answer
+    → IfErr answer (λ e. IsCreateRefusal seen m.desk n.desk m.frames.rows n.frames.rows by held p now m.log.seen.durable m.log.seen.end n.log.seen.end m.log.seen.faults n.log.seen.faults e)
+why_unmade seen m n by held p now (Ok g) is = tt
+why_unmade seen m n by held p now (Err e) is = is.refused
 
 pub unmade_along : {D : Type 0} (seen : D → DiskSeen) (old new : State D) (before after : Plain) (was is : Seen) (w : Working) (p : PageId) (now held : ℕ) (answer : Result Granted CreateErr)
     → Fixes seen old new before after was is w → RefusesCreate answer

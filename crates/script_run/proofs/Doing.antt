@@ -92,7 +92,7 @@ pub places : {D : Type 0} (seen : D → DiskSeen) (o : Opening) (start : Start) 
     → HasPlaces o.first o.config (before_call (made w.next (own w.pass past)) (entries past)) w.pass w.next asked
 places seen o start desk log w past pending base asked need so stands is room =
     let at : before_call (made w.next (own w.pass past)) (entries past) ≡ base =
-    ap (λ l. before_call l (entries past)) so.calls.made_are ∙ before_by o.first pending base (entries past) (so.entries_are ∙ stands) (numbered_entries o past so.good) in
+    ap (λ l. before_call l (entries past)) so.calls.made_are ∙ before_by o.first pending base (entries past) (so.entries_are ∙ stands) (numbered_entries _ o past so.good) in
     let R : ℕ → Type 0 = λ n. mark n base + need ≤ LIMIT in
     let H : List Entry → Type 0 = λ h. HasPlaces o.first o.config h w.pass w.next asked in
     subst H (sym at) (places_by o.first o.config base w.pass w.next asked need is (subst R so.first_is room))
@@ -100,11 +100,11 @@ places seen o start desk log w past pending base asked need so stands is room =
 -- The places of the call are left, behind which the history has room for its entries, and its page is in its space.
 pub reached : {D : Type 0} (seen : D → DiskSeen) (o : Opening) (start : Start) (desk : State D) (log : Seen) (w : Working) (past : List Event) (pending base : List Entry) (asked : Call) (need : ℕ)
     → SoFar seen o start desk log w past pending → desk.history ≡ pending ++ base → need_of o.config base w.pass w.next asked ≡ Some need → mark desk.config.first base + need ≤ LIMIT
-    → IfSome (sought_page asked) (λ p. p.page < start.pages p.space) → IsReached o (entries past) (made w.next (own w.pass past)) w.pass w.next asked
+    → IfSome (sought_page asked) (λ p. p.page < start.pages p.space) → IsReached o past (entries past) (made w.next (own w.pass past)) w.pass w.next asked
 reached seen o start desk log w past pending base asked need so stands is room inside =
     record {
       places = places seen o start desk log w past pending base asked need so stands is room;
-      inside = each_some (sought_page asked) (λ p. IsInside (entries past) p) (λ p is_p. inside_of start.pages (entries past) p (spaces_of o start.pages past so.promised p.space) (at_some (sought_page asked) (λ q. q.page < start.pages q.space) p inside is_p));
+      inside = each_some (sought_page asked) (λ p. IsInside past p) (λ p is_p. inside_of start.pages past p (spaces_of o start.pages past so.promised p.space) (at_some (sought_page asked) (λ q. q.page < start.pages q.space) p inside is_p));
     }
   where
     each_some : {A : Type 0} (v : Option A) (P : A → Type 0) → ((x : A) → v ≡ Some x → P x) → IfSome v P
@@ -224,7 +224,7 @@ pub refused_behind : {D : Type 0} (seen : D → DiskSeen) (o : Opening) (start :
     → (r : Readied seen o start old new log w past p h) → Left seen old new → new.history ≡ entry_behind old.config.first h (me w) (kind.Refused c why) ∷ h
     → IsLoggedKind log (kind.Refused c why) → IsCauseWithin start (seen new.disk).faults log.faults why
     → unwrap_or (disk_fault why) (disk_faults h) ≤ (seen new.disk).faults → unwrap_or (log_fault why) (log_faults h) ≤ log.faults
-    → MayPrecedeRefusal h r.made c why → IsRefused o (entries (r.more ++ past)) (own w.pass (r.more ++ past)) w.pass w.next c why → IsTrueRefusal h w.fixed c why
+    → MayPrecedeRefusal h r.made c why → IsRefused o (r.more ++ past) (entries (r.more ++ past)) (own w.pass (r.more ++ past)) w.pass w.next c why → IsTrueRefusal h w.fixed c why
     → IsOfSpaces start.pages (kind.Refused c why) → IsFairRefusal false o (entries (r.more ++ past)) (made w.next (own w.pass (r.more ++ past))) c why
     → (is_late c why ≡ true) ⊎ ((book old.config h).hand ≡ None)
     → ((l : List Entry) → Answers l w.pass asked past (event.Entry (entry_behind old.config.first h (me w) (kind.Refused c why))))
@@ -256,7 +256,7 @@ pub refused_at_once : {D : Type 0} (seen : D → DiskSeen) (o : Opening) (start 
     → (so : SoFar seen o start old was w past []) → Moves seen old new was is → IsAppended old new (me w) (kind.Refused c why)
     → IsLoggedKind is (kind.Refused c why) → IsCauseWithin start (seen new.disk).faults is.faults why
     → unwrap_or (disk_fault why) (disk_faults old.history) ≤ (seen new.disk).faults → unwrap_or (log_fault why) (log_faults old.history) ≤ is.faults
-    → MayPrecedeRefusal old.history [] c why → IsRefused o (entries past) (own w.pass past) w.pass w.next c why → IsTrueRefusal old.history w.fixed c why
+    → MayPrecedeRefusal old.history [] c why → IsRefused o past (entries past) (own w.pass past) w.pass w.next c why → IsTrueRefusal old.history w.fixed c why
     → IsOfSpaces start.pages (kind.Refused c why) → IsFairRefusal false o (entries past) (made w.next (own w.pass past)) c why
     → ((l : List Entry) → Answers l w.pass asked past (event.Entry (next_entry old (me w) (kind.Refused c why))))
     → Does seen o start new is (with_answer w (kind.Refused c why)) past asked
@@ -283,7 +283,7 @@ does_refused : {D : Type 0} (seen : D → DiskSeen) (o : Opening) (start : Start
     → (r : Readied seen o start old new log w past p h) → Left seen old new → new.history ≡ entry_behind old.config.first h (me w) (kind.Refused (call.Fix p now) why) ∷ h
     → IsLoggedKind log (kind.Refused (call.Fix p now) why) → IsCauseWithin start (seen new.disk).faults log.faults why
     → unwrap_or (disk_fault why) (disk_faults h) ≤ (seen new.disk).faults → unwrap_or (log_fault why) (log_faults h) ≤ log.faults
-    → MayPrecedeRefusal h r.made (call.Fix p now) why → IsRefused o (entries (r.more ++ past)) (own w.pass (r.more ++ past)) w.pass w.next (call.Fix p now) why → IsTrueRefusal h w.fixed (call.Fix p now) why
+    → MayPrecedeRefusal h r.made (call.Fix p now) why → IsRefused o (r.more ++ past) (entries (r.more ++ past)) (own w.pass (r.more ++ past)) w.pass w.next (call.Fix p now) why → IsTrueRefusal h w.fixed (call.Fix p now) why
     → IsOfSpaces start.pages (kind.Refused (call.Fix p now) why) → IsTrue (is_own (call.Fix p now) why) → is_noted why ≡ false
     → (is_exact why ≡ false → HasExcuse o (entries (r.more ++ past)) p why) → TellsRising why → is_late (call.Fix p now) why ≡ true
     → Does seen o start new log (with_answer w (kind.Refused (call.Fix p now) why)) past (command.Fix p now)
@@ -296,7 +296,7 @@ refused_alone : {D : Type 0} (seen : D → DiskSeen) (o : Opening) (start : Star
     → (so : SoFar seen o start old was w past []) → Moves seen old new was is → IsAppended old new (me w) (kind.Refused (call.Fix p now) why)
     → IsLoggedKind is (kind.Refused (call.Fix p now) why) → IsCauseWithin start (seen new.disk).faults is.faults why
     → unwrap_or (disk_fault why) (disk_faults old.history) ≤ (seen new.disk).faults → unwrap_or (log_fault why) (log_faults old.history) ≤ is.faults
-    → MayPrecedeRefusal old.history [] (call.Fix p now) why → IsRefused o (entries past) (own w.pass past) w.pass w.next (call.Fix p now) why → IsTrueRefusal old.history w.fixed (call.Fix p now) why
+    → MayPrecedeRefusal old.history [] (call.Fix p now) why → IsRefused o past (entries past) (own w.pass past) w.pass w.next (call.Fix p now) why → IsTrueRefusal old.history w.fixed (call.Fix p now) why
     → IsOfSpaces start.pages (kind.Refused (call.Fix p now) why) → IsTrue (is_own (call.Fix p now) why) → is_noted why ≡ false
     → (is_exact why ≡ false → HasExcuse o (entries past) p why) → TellsRising why
     → Does seen o start new is (with_answer w (kind.Refused (call.Fix p now) why)) past (command.Fix p now)
@@ -307,7 +307,7 @@ refused_alone seen o start old new was is w past p now why so moves entry logged
 -- a fix got as far as its own causes, and none is due
 fix_reached : {D : Type 0} (seen : D → DiskSeen) (o : Opening) (start : Start) (desk : State D) (log : Seen) (w : Working) (past : List Event) (pending base : List Entry) (p : PageId) (now : ℕ)
     → SoFar seen o start desk log w past pending → desk.history ≡ pending ++ base → mark desk.config.first base + FIX_NEED ≤ LIMIT → p.page < start.pages p.space
-    → IsReached o (entries past) (made w.next (own w.pass past)) w.pass w.next (call.Fix p now)
+    → IsReached o past (entries past) (made w.next (own w.pass past)) w.pass w.next (call.Fix p now)
 fix_reached seen o start desk log w past pending base p now so stands room inside = reached seen o start desk log w past pending base (call.Fix p now) FIX_NEED so stands refl room inside
 
 pub does_outside : {D : Type 0} (seen : D → DiskSeen) (o : Opening) (start : Start) (old new : State D) (was is : Seen) (w : Working) (past : List Event) (p : PageId) (now pages : ℕ)
@@ -318,7 +318,7 @@ does_outside seen o start old new was is w past p now pages so moves out room =
     refused_alone seen o start old new was is w past p now (cause.NoSuchPage pages) so moves out.entry tt tt (omega (arith, so.last_fault, moves.left.later)) (omega (arith, so.last_log_fault, moves.later))
     (tt, refl) (
       places seen o start old was w past [] old.history (call.Fix p now) FIX_NEED so refl refl room,
-      outside_of start.pages (entries past) p pages (spaces_of o start.pages past so.promised p.space) count out.past_end,
+      outside_of start.pages past p pages (spaces_of o start.pages past so.promised p.space) count out.past_end,
     ) (wordless old.history w.fixed (call.Fix p now) (cause.NoSuchPage pages) refl refl refl) (record { inside = tt; told = count }) refl refl (λ none. let bad : true ≡ false = none in absurd (cc)) tt
 
 pub does_full : {D : Type 0} (seen : D → DiskSeen) (o : Opening) (start : Start) (old new : State D) (was is : Seen) (w : Working) (past : List Event) (p : PageId) (now held full : ℕ)
@@ -450,7 +450,7 @@ does_unsound seen o start old had new frames was is w past p now f found so move
 
 -- a receipt is the answer of the call
 does_receipt : {D : Type 0} (seen : D → DiskSeen) (o : Opening) (start : Start) (desk : State D) (log : Seen) (w : Working) (past : List Event) (c : Command) (n : Note)
-    → SoFar seen o start desk log w past [] → IsLawful o past (event.Receipt (next_receipt desk w n)) → IsPromised o start.pages (entries past) (own w.pass past) (event.Receipt (next_receipt desk w n)) → IsTrueNote (entries past) (held_by past w.pass) n
+    → SoFar seen o start desk log w past [] → IsLawful o None past (event.Receipt (next_receipt desk w n)) → IsPromised o start.pages (entries past) (own w.pass past) (event.Receipt (next_receipt desk w n)) → IsTrueNote (entries past) (held_by past w.pass) n
     → ((h : List Entry) → Answers h w.pass c past (event.Receipt (next_receipt desk w n))) → Does seen o start desk log (with_note desk w n) past c
 does_receipt seen o start desk log w past c n so lawful promised exact answers = record {
   answer = event.Receipt (next_receipt desk w n);
@@ -475,7 +475,7 @@ does_unheld_read seen o start desk log w past p at len so none =
     let e : Event = event.Receipt (next_receipt desk w n) in
     let M : Option Held → Type 0 = λ newest. MatchOption newest (IsReceiptOf n e) (λ held. (bytes : List ℕ) × (clock : ℕ) × (length bytes ≡ len) × IsReceiptOf (note.Copied p at bytes clock) e) in
     let here : newest_fix (held_by past w.pass) p ≡ None = ap (λ held. newest_fix held p) so.held ∙ none in
-    does_receipt seen o start desk log w past (command.Read p at len) n so (lawful_receipt seen o start desk log w past n so tt (is_unheld past w.pass p here)) (record { own = refl; filed = refl; excused = tt; rising = tt; begun = tt })
+    does_receipt seen o start desk log w past (command.Read p at len) n so (lawful_receipt seen o start desk log w past n so refl tt (is_unheld past w.pass p here)) (record { inside = tt; told = tt }, record { own = refl; filed = refl; excused = tt; rising = tt; begun = tt })
     (wordless (entries past) (held_by past w.pass) _ cause.Unheld refl refl refl) (λ h. subst M (sym here) refl)
 
 -- and of an unfix of one
@@ -486,7 +486,7 @@ does_unheld_unfix seen o start desk log w past p so none =
     let e : Event = event.Receipt (next_receipt desk w n) in
     let M : Option Held → Type 0 = λ newest. MatchOption newest (IsReceiptOf n e) (λ held. IsReceiptOf (note.Unfixed p held.frame held.number) e) in
     let here : newest_fix (held_by past w.pass) p ≡ None = ap (λ held. newest_fix held p) so.held ∙ none in
-    does_receipt seen o start desk log w past (command.Unfix p) n so (lawful_receipt seen o start desk log w past n so tt (is_unheld past w.pass p here)) (record { own = refl; filed = refl; excused = tt; rising = tt; begun = tt })
+    does_receipt seen o start desk log w past (command.Unfix p) n so (lawful_receipt seen o start desk log w past n so refl tt (is_unheld past w.pass p here)) (record { inside = tt; told = tt }, record { own = refl; filed = refl; excused = tt; rising = tt; begun = tt })
     (wordless (entries past) (held_by past w.pass) _ cause.Unheld refl refl refl) (λ h. subst M (sym here) refl)
 
 pub does_unfix : {D : Type 0} (seen : D → DiskSeen) (o : Opening) (start : Start) (desk : State D) (log : Seen) (w : Working) (past : List Event) (p : PageId) (h : Held)
@@ -499,7 +499,7 @@ does_unfix seen o start desk log w past p h so newest =
     let make : PageId → Held = λ page. record { page = page; frame = h.frame; number = h.number } in
     let found = newest_held (held_by past w.pass) p h here in
     let C : Held → Type 0 = λ one. Contains (held_by past w.pass) one in
-    does_receipt seen o start desk log w past (command.Unfix p) n so (lawful_receipt seen o start desk log w past n so (subst C (ap make found.1) found.0) (record { reached = record { places = tt; inside = tt }; none_due = is_held past w.pass p h here })) tt tt (λ h. subst M (sym here) refl)
+    does_receipt seen o start desk log w past (command.Unfix p) n so (lawful_receipt seen o start desk log w past n so refl (subst C (ap make found.1) found.0) (record { reached = record { places = tt; inside = tt }; none_due = is_held past w.pass p h here })) (record { inside = tt; told = tt }, tt) tt (λ h. subst M (sym here) refl)
 
 -- what was copied of the image is of the page's value
 value_read : (o : Opened) (seen : FramesSeen) (v : Option Content) (image : Option (Option Content)) (at : ℕ) (bytes : List ℕ) → IsValueIn o seen image v → IsRangeOf image at (length bytes) bytes
@@ -525,13 +525,13 @@ does_copy seen o start desk frames log w past p at len held bytes clock so stand
     let C : List Entry → Type 0 = λ h. IsSomeAnd (home h p) (λ f. clock ≡ change h f) in
     let H : Option ℕ → Type 0 = λ found. IsSomeAnd found (λ f. clock ≡ change desk.history f) in
     does_receipt seen o start desk log w past (command.Read p at len) n so
-    (lawful_receipt seen o start desk log w past n so (record {
+    (lawful_receipt seen o start desk log w past n so refl (record {
       held = subst S (sym here) refl;
       read = on_some o.base _ (λ base. IsSomeAnd (value size base (entries past) p) (λ c. bytes ≡ slice_range c.bytes at (at + length bytes))) (λ base is behind.
           let V : List Entry → Type 0 = λ h. IsSomeAnd (value size base h p) (λ c. bytes ≡ slice_range c.bytes at (at + length bytes)) in
           subst V (sym so.entries_are) (value_read (opened_of o start base) (seen_of frames) (value size base desk.history p) (row_in frames.rows held.frame).image at bytes (behind.values p held.frame resident) read)) stands;
       unchanged = subst C (sym so.entries_are) (subst H (sym resident) unchanged);
-    }) (record { reached = record { places = tt; inside = tt }; none_due = is_held past w.pass p held here })) tt tt (λ h. subst M (sym here) (bytes, clock, long, refl))
+    }) (record { reached = record { places = tt; inside = tt }; none_due = is_held past w.pass p held here })) (record { inside = tt; told = tt }, tt) tt (λ h. subst M (sym here) (bytes, clock, long, refl))
 
 pub does_copied : {D : Type 0} (seen : D → DiskSeen) (o : Opening) (start : Start) (desk : State D) (frames : Plain) (log : Seen) (w : Working) (past : List Event) (p : PageId) (at len : ℕ) (held : Held) (bytes : List ℕ) (clock : ℕ)
     → SoFar seen o start desk log w past [] → StandsBehind seen o start desk frames → newest_fix w.fixed p ≡ Some held → home desk.history p ≡ Some held.frame → length bytes ≡ len
@@ -550,7 +550,7 @@ does_unheld_put seen o start desk log w past p at bytes so none =
     let e : Event = event.Receipt (next_receipt desk w n) in
     let M : Option Held → Type 0 = λ newest. MatchOption newest (IsReceiptOf n e) (λ held. ((from : ℕ) × (end : ℕ) × IsEntryOf (kind.Put p at bytes from end) e) ⊎ IsRefusal (call.Put p at bytes) e) in
     let here : newest_fix (held_by past w.pass) p ≡ None = ap (λ held. newest_fix held p) so.held ∙ none in
-    does_receipt seen o start desk log w past (command.Put p at bytes) n so (lawful_receipt seen o start desk log w past n so tt (is_unheld past w.pass p here)) (record { own = refl; filed = refl; excused = tt; rising = tt; begun = tt })
+    does_receipt seen o start desk log w past (command.Put p at bytes) n so (lawful_receipt seen o start desk log w past n so refl tt (is_unheld past w.pass p here)) (record { inside = tt; told = tt }, record { own = refl; filed = refl; excused = tt; rising = tt; begun = tt })
     (wordless (entries past) (held_by past w.pass) _ cause.Unheld refl refl refl) (λ h. subst M (sym here) refl)
 
 -- an entry that answers a put of a page that is held
@@ -558,7 +558,7 @@ does_put_entry : {D : Type 0} (seen : D → DiskSeen) (o : Opening) (start : Sta
     → SoFar seen o start old was w past [] → Moves seen old new was is → IsAppended old new (me w) k → kind_answers k ≡ true → held_after_kind w.next k w.fixed ≡ w.fixed → newest_fix w.fixed p ≡ Some held
     → IsKindWithin start (seen new.disk).faults is.faults k → disk_faults_after k (disk_faults old.history) ≤ (seen new.disk).faults → log_faults_after k (log_faults old.history) ≤ is.faults
     → MayPrecede old.history [] k → IsLegalKind o (entries past) (own w.pass past) w.pass w.next k → IfSome (departure_in k) (λ d. IsUnfixed past d.page) → IfSome (write_in k) (λ v. IsCoveredWrite (entries past) v.page v.lsn v.upto)
-    → IsCausedKind o (entries past) (own w.pass past) w.pass w.next k → IsVictimKind o.config (entries past) w.pass w.next k → IsWithdrawalKind o.config (entries past) w.pass w.next k → IsTrueKind old.history w.fixed k
+    → IsCausedKind o past (entries past) (own w.pass past) w.pass w.next k → IsVictimKind o.config (entries past) w.pass w.next k → IsWithdrawalKind o.config (entries past) w.pass w.next k → IsTrueKind old.history w.fixed k
     → IsPromised o start.pages (entries past) (own w.pass past) (event.Entry (next_entry old (me w) k)) → leaves_chunks k ≡ true → (book old.config (next_entry old (me w) k ∷ old.history)).hand ≡ None
     → ((from : ℕ) × (end : ℕ) × (k ≡ kind.Put p at bytes from end)) ⊎ ((why : Cause) × (k ≡ kind.Refused (call.Put p at bytes) why))
     → Does seen o start new is (with_answer w k) past (command.Put p at bytes)
@@ -619,7 +619,7 @@ does_spent seen o start old new was is w past p at bytes held end so newest spen
     let k = kind.Refused (call.Put p at bytes) (cause.LogSpent end) in
     let here : newest_fix (held_by past w.pass) p ≡ Some held = ap (λ fixes. newest_fix fixes p) so.held ∙ newest in
     let why = cause.LogSpent end in
-    let told : told_end (entries past) ≤ was.end = told_below o past was so.good (subst (λ (l : List Entry). IsLogged was l) (sym so.entries_are) so.logged) (subst (λ (l : List Entry). log_end l ≤ was.end) (sym so.entries_are) known) in
+    let told : told_end (entries past) ≤ was.end = told_below _ o past was so.good (subst (λ (l : List Entry). IsLogged was l) (sym so.entries_are) so.logged) (subst (λ (l : List Entry). log_end l ≤ was.end) (sym so.entries_are) known) in
     let left = left_same seen old new spent.entry.config spent.entry.instance spent.disk in
     does_put_entry seen o start old new was is w past p at bytes held k so (record { left = left; later = later.faults; logged = logged so.logged }) spent.entry refl refl newest
     tt (omega (arith, so.last_fault, left.later)) (omega (arith, so.last_log_fault, later.faults)) (tt, refl) tt tt tt (

@@ -19,14 +19,14 @@ use Rattle.page_ids.specs.declared.limits.TheConstants.{LIMIT}
 use Rattle.trail.specs.declared.event.Held.{Held}
 use Rattle.trail.specs.Trails.{Events, mark, entries, receipts, AreNumbered, AreWithin, caller_of, number_of, own, Opening}
 use Rattle.trail.specs.Book.{book}
-use Rattle.trail.specs.Words.{words_told}
 use Rattle.trail.specs.Legal.{IsNumbered, IsTogether}
 use Rattle.trail.specs.Preceding.{MayPrecede}
 use Rattle.trail.specs.Withdrawal.{AreFollowed}
 use Rattle.trail.specs.History.{disk_faults, log_faults}
 use Rattle.trail.specs.Dirt.{dirty}
-use Rattle.trail.specs.Calls.{calls_of, is_answer, is_answered, made as made_by, open_fixes}
-use Rattle.trail.specs.Alone.{AreTrue, IsTrueBy, IsTrueEvent, IsTrueKind, closing_number, is_of_flush, only_caller, other_callers, sole_caller}
+use Rattle.trail.specs.Calls.{calls_of, is_answer, is_answered, held_by, made as made_by}
+use Rattle.trail.specs.Alone.{IsTrueEvent, IsTrueKind, closing_number, is_of_flush, only_caller, other_callers, sole_of}
+use Rattle.trail.proofs.Judging.{AreTrue, unasked, with_words, words_of}
 use Rattle.trail.specs.Laws.{IsLawful, IsSettled, AreLawful}
 use Rattle.trail.specs.Promises.{ArePromised}
 use Rattle.trail.specs.Merging.{merged, AllWithin, IsPlaced}
@@ -76,7 +76,6 @@ so_far_new {D} seen config base start desk log w pass disk fresh new same disk_l
       held = refl;
       falling = tt;
       alone = tt;
-      exact = tt;
     })
 
 number_is : (m n : ℕ) → nat_eq m n ≡ true → m ≡ n
@@ -121,21 +120,21 @@ own_other [] k c of other = refl
 own_other (e ∷ past) k c of other = ap (λ (b : Bool). cond b (e ∷ own c past) (own c past)) (apart (caller_of e) k c of.0 other) ∙ own_other past k c of.1 other
 
 -- each of the worker's calls has its answer
-all_answered : (o : Opening) (mine : List Event) (c n : ℕ) (past : List Event) → AreLawful o past → AreOf c past → calls_of (own c past) < n → ((k : ℕ) → 1 ≤ k → k < n → is_answered k mine ≡ true)
+all_answered : (sole : Option ℕ) (o : Opening) (mine : List Event) (c n : ℕ) (past : List Event) → AreLawful o sole past → AreOf c past → calls_of (own c past) < n → ((k : ℕ) → 1 ≤ k → k < n → is_answered k mine ≡ true)
     → AllByRecursion (λ (e : Event). is_answered (number_of e) mine ≡ true) past
-all_answered o mine c n [] good of less settled = tt
-all_answered o mine c n (e ∷ past) good of less settled =
+all_answered sole o mine c n [] good of less settled = tt
+all_answered sole o mine c n (e ∷ past) good of less settled =
     let C : List Event → Type 0 = λ l. calls_of l < n in
     let parts = most_parts (number_of e) (calls_of (own c past)) n (subst C (own_more c e past of.0) less) in
-    (settled (number_of e) (first_number o past e good.0) parts.0, all_answered o mine c n past good.1 of.1 parts.1 settled)
+    (settled (number_of e) (first_number sole o past e good.0) parts.0, all_answered _ o mine c n past good.1 of.1 parts.1 settled)
   where
     open_first : (mine : List Event) (m : ℕ) → IsNumbered mine m → 1 ≤ m
     open_first mine m (inl next) = omega (arith, next)
     open_first mine m (inr waits) = waits.first
 
-    first_number : (o : Opening) (past : List Event) (e : Event) → IsLawful o past e → 1 ≤ number_of e
-    first_number o past (event.Entry x) law = open_first (own x.caller past) x.number law.legal.number
-    first_number o past (event.Receipt r) law = omega (arith, law.legal.number)
+    first_number : (s : Option ℕ) (o : Opening) (past : List Event) (e : Event) → IsLawful o s past e → 1 ≤ number_of e
+    first_number s o past (event.Entry x) law = open_first (own x.caller past) x.number law.legal.number
+    first_number s o past (event.Receipt r) law = open_first (own r.caller past) r.number law.legal.number
 
 settled_by : (o : Opening) (whole : List Event) (mine : List Event) (c : ℕ) (past : List Event) → AreOf c past → own c whole ≡ mine → AllByRecursion (λ (e : Event). is_answered (number_of e) mine ≡ true) past
     → AllByRecursion (IsSettled o whole) past
@@ -226,13 +225,9 @@ worker_true flush (e ∷ rest) closing of exact = cases (only_caller (other_call
         subst X (sym (is_one (other_callers closing (flush ++ e ∷ rest)) c is (worker_there closing flush e rest of.0))) exact
 
 -- the closing entry
-close_true : (sole : Option ℕ) (h : List Entry) (mine : List Event) (e : Entry) (k : Kind) → e.kind ≡ k → ((held : List Held) → IsTrueKind h held k) → words_told k ≡ [] → IsTrueEvent sole h mine (event.Entry e)
-close_true None h mine e k is exact wordless = tt
-close_true (Some c) h mine e k is exact wordless = cases (nat_eq e.caller c)
-  where
-    cases : (b : Bool) → IsTrueBy b h mine (event.Entry e)
-    cases true = let K : Kind → Type 0 = λ x. IsTrueKind h (open_fixes mine) x in subst K (sym is) (exact (open_fixes mine))
-    cases false = ap words_told is ∙ wordless
+close_true : (sole : Option ℕ) (past : List Event) (e : Entry) (k : Kind) → e.kind ≡ k → ((held : List Held) → IsTrueKind (entries past) held k) → IsTrueEvent sole past (event.Entry e)
+close_true None past e k is exact = tt
+close_true (Some c) past e k is exact = let K : Kind → Type 0 = λ x. IsTrueKind (entries past) (held_by past c) x in subst K (sym is) (exact (held_by past c))
 
 closes : (start : Start) (disk_was disk_is log_was log_is : ℕ) (o : Opening) (past : List Event) (n : ℕ) (mid : List Entry) (f : Flushed runner o start disk_is log_is past n mid) (fault : Option FaultAt)
     → start.disk_faults ≤ disk_was → start.log_faults ≤ log_was → disk_faults (entries past) ≤ disk_was → log_faults (entries past) ≤ log_was
@@ -241,10 +236,10 @@ closes start disk_was disk_is log_was log_is o past n mid f None low low_log las
 closes start disk_was disk_is log_was log_is o past n mid f (Some fault) low low_log last last_log flush most room =
     fault_closes runner start disk_was disk_is log_was log_is o past n mid f 16384 fault.log fault.before fault.after low low_log last last_log flush.where_is.rose flush.counts most (omega arith) room
 
-placed : (o : Opening) (past : List Event) → AreLawful o past → IsPlaced o.first past
-placed o [] good = tt
-placed o (event.Entry e ∷ past) good = (good.0.legal.place, placed o past good.1)
-placed o (event.Receipt r ∷ past) good = (good.0.legal.place, placed o past good.1)
+placed : (sole : Option ℕ) (o : Opening) (past : List Event) → AreLawful o sole past → IsPlaced o.first past
+placed sole o [] good = tt
+placed sole o (event.Entry e ∷ past) good = (good.0.legal.place, placed _ o past good.1)
+placed sole o (event.Receipt r ∷ past) good = (good.0.legal.place, placed _ o past good.1)
 
 -- what merging asks and gives of one account
 pub record Merges : Type 0 where
@@ -253,10 +248,10 @@ pub record Merges : Type 0 where
   pub merged_is : (first : ℕ) (past : List Event) → IsPlaced first past → merged first (reverse (entries past)) (reverse (receipts past) ∷ []) ≡ reverse past
 
 -- the events are those of the worker and the closing entry
-merged_events : (o : Opening) (past : List Event) (history : List Entry) (account : List Receipt) (events : List Event) → Merges → AreLawful o past → entries past ≡ reverse history → receipts past ≡ reverse account
+merged_events : (sole : Option ℕ) (o : Opening) (past : List Event) (history : List Entry) (account : List Receipt) (events : List Event) → Merges → AreLawful o sole past → entries past ≡ reverse history → receipts past ≡ reverse account
     → (AreNumbered o.first (reverse history) → AllWithin (mark o.first (reverse history)) (account ∷ []) → events ≡ merged o.first history (account ∷ [])) → events ≡ reverse past
-merged_events o past history account events law good es rs merges =
-    let is_placed = placed o past good in
+merged_events sole o past history account events law good es rs merges =
+    let is_placed = placed _ o past good in
     let N : List Entry → Type 0 = λ h. AreNumbered o.first h in
     let W : List Entry → List Receipt → Type 0 = λ h r. AreWithin (mark o.first h) r in
     let WE : List Entry → Type 0 = λ h. W h (receipts past) in
@@ -283,7 +278,7 @@ finished {D} seen o start desk new was is w commands fault history account trail
     let O : ℕ → Type 0 = λ c. AreOf c more in
     let of_one : AreOf 1 more = subst O pass so.alone in
     let E1 : ℕ → Type 0 = λ n. AreTrue (Some n) more in
-    let exact : AreTrue (Some 1) more = subst E1 pass so.exact in
+    let exact : AreTrue (Some 1) more = subst E1 pass (words_of o (Some w.pass) more so.good) in
     let none : own 0 more ≡ [] = own_other more 1 0 of_one refl in
     let calls : IsCalling (own 0 more) 1 [] = let C : List Event → Type 0 = λ mine. IsCalling mine 1 [] in subst C (sym none) calling_at_start in
     let R : ℕ → List Entry → Type 0 = λ m h. mark m h + 16385 ≤ LIMIT in
@@ -295,7 +290,7 @@ finished {D} seen o start desk new was is w commands fault history account trail
     let W : ℕ → List Entry → Type 0 = λ m h. WritesBack m runner n h closed.cleaned.mid in
     let WF : ℕ → Type 0 = λ m. W m desk.history in
     let writes : WritesBack o.first runner n (entries more) closed.cleaned.mid = subst (W o.first) (sym so.entries_are) (subst WF so.first_is closed.cleaned.writes) in
-    let f = flushed runner o start disk_is is.faults more n closed.cleaned.mid front so.good so.promised calls faults writes in
+    let f = flushed runner o start disk_is is.faults more n closed.cleaned.mid front (unasked o (Some w.pass) more so.good) so.promised calls faults writes in
     let L : List Entry → Type 0 = λ h. disk_faults h ≤ (seen desk.disk).faults in
     let G : List Entry → Type 0 = λ h. log_faults h ≤ was.faults in
     let c = closes start (seen desk.disk).faults disk_is was.faults is.faults o more n closed.cleaned.mid f fault so.low_is so.low_log
@@ -306,7 +301,7 @@ finished {D} seen o start desk new was is w commands fault history account trail
     let place : mark desk.config.first closed.cleaned.mid + 1 ≡ mark o.first (entries before) + 1 = ap (λ m. mark m closed.cleaned.mid + 1) so.first_is ∙ ap (λ h. mark o.first h + 1) (sym f.entries_are) in
     let T : ℕ → Type 0 = λ m. IsTogether m (made_by 1 (own 0 before)) in
     let M : List Entry → Type 0 = λ made. MayPrecede (entries before) made k in
-    let lawful : IsLawful o before close = record {
+    let lawful : IsLawful o None before close = record {
       legal = record {
         place = place;
         number = numbered_by (own 0 before) 1 f.made f.calls;
@@ -318,15 +313,16 @@ finished {D} seen o start desk new was is w commands fault history account trail
       still = c.still;
       covered = c.covered;
       causes = c.causes;
+      words = tt;
       victim = c.victim;
       withdrawal = c.withdrawal;
     } in
     let past : List Event = close ∷ before in
-    let good : AreLawful o past = (lawful, f.good) in
+    let good : AreLawful o None past = (lawful, f.good) in
     let all : entries past ≡ new.history = ap (λ h. entry ∷ h) f.entries_are ∙ sym closed.cleaned.history in
     let es : entries past ≡ reverse history = all ∙ sym history_is in
     let rs : receipts past ≡ reverse account = f.receipts_are ∙ so.receipts_are ∙ sym account_is in
-    let events : trail.events ≡ reverse past = merged_events o past history account trail.events law good es rs merges in
+    let events : trail.events ≡ reverse past = merged_events _ o past history account trail.events law good es rs merges in
     let back : reverse trail.events ≡ past = ap reverse events ∙ reverse-reverse past in
     let mine : (caller : ℕ) → Event → Bool = λ caller e. nat_eq (caller_of e) caller && is_answer e in
     let answers : (caller : ℕ) → answers_of caller trail.events ≡ reverse (filter (mine caller) past) = λ caller. ap (answers_of caller) events ∙ filter_reverse (mine caller) past in
@@ -337,18 +333,17 @@ finished {D} seen o start desk new was is w commands fault history account trail
     let B : List Event → Type 0 = λ l. IsCalling l w.next [] in
     let count : calls_of (own 1 more) + 1 ≡ w.next = calling.count in
     let settled : AllByRecursion (λ (e : Event). is_answered (number_of e) more ≡ true) more =
-    all_answered o more 1 w.next more so.good of_one (omega (arith, count)) (subst B (own_all 1 more of_one) calling).settled in
+    all_answered _ o more 1 w.next more so.good of_one (omega (arith, count)) (subst B (own_all 1 more of_one) calling).settled in
     let answered : AllByRecursion (IsSettled o past) past =
     flush_settled o past (close ∷ f.writes) more (refl, f.by_it) (refl, f.numbers) runs_last (settled_by o past more 1 more of_one mine_one settled) in
     let steady : AreSteady (entries past) = let S : List Entry → Type 0 = λ h. AreSteady h in (c.steady, subst S (sym f.entries_are) (f.steady (subst S (sym so.entries_are) so.steady))) in
-    let sole = sole_caller past in
-    let true_all : AreTrue sole past = (close_true sole (entries before) (own 0 before) entry k refl (c.exact (entries before)) c.wordless, f.exact sole (worker_true (close ∷ f.writes) more (closing_number past) of_one exact)) in
-    let P : List Event → Type 0 = λ l. AreLawful o l in
+    let sole = sole_of past in
+    let true_all : AreTrue sole past = (close_true sole before entry k refl (c.exact (entries before)), f.exact sole (worker_true (close ∷ f.writes) more (closing_number past) of_one exact)) in
+    let P : List Event → Type 0 = λ l. AreLawful o (sole_of l) l in
     let Q : List Event → Type 0 = λ l. ArePromised o start.pages l in
     let U : List Event → Type 0 = λ l. AllByRecursion (IsSettled o l) l in
     let V : List Event → Type 0 = λ l. AreFollowed l None (entries l) in
     let A : List Event → Type 0 = λ l. AreOfOneThread l in
-    let X : List Event → Type 0 = λ l. AreTrue (sole_caller l) l in
     let T : List Event → Type 0 = λ l. Todo (entries (reverse trail.events)) 1 commands [] l in
     let K : ℕ → Type 0 = λ m. Todo (entries (reverse trail.events)) m commands [] (reverse (filter is_answer more)) in
     let C : List Entry → Type 0 = λ h. dirty h ≡ [] in
@@ -358,10 +353,9 @@ finished {D} seen o start desk new was is w commands fault history account trail
       record {
         lawful = record {
           first = first;
-          each = subst P (sym back) good;
+          each = subst P (sym back) (with_words o None sole past good true_all);
           answered = subst U (sym back) answered;
           followed = subst V (sym back) (all_followed past None (entries past) steady);
-          alone = subst X (sym back) true_all;
         };
         promised = subst Q (sym back) (c.promised, f.promised);
         todo = subst T (sym (answers 1 ∙ ap reverse (f.quiet 1 ∙ answers_own more 1 of_one))) (subst K pass (done.todo (entries (reverse trail.events)) goes));

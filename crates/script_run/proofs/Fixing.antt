@@ -1,5 +1,5 @@
 -- What a fix does, by its answer.
-use Rattle.std.proofs.Common.{◌≡◌, ℕ, List, [], ◌+◌, ◌<◌, ◌≤◌, None, IsSome, Result, Ok, Err, IfErr, length, refl, subst, inl, inr}
+use Rattle.std.proofs.Common.{◌≡◌, ℕ, List, [], ◌+◌, ◌<◌, ◌≤◌, None, IsSome, Result, Ok, Err, IfErr, length, refl, subst, inl, inr, arith}
 use Rattle.page_ids.specs.declared.ids.PageId.{PageId}
 use Rattle.page_ids.specs.declared.layout.BadPage.{BadPage}
 use Rattle.page_ids.specs.declared.limits.TheConstants.{FIX_NEED, LIMIT}
@@ -12,9 +12,14 @@ use Rattle.trail.specs.declared.event.Kind.TheVariants as kind
 use Rattle.trail.specs.History.{value}
 use Rattle.trail.specs.Dirt.{log_end}
 use Rattle.trail.specs.Trails.{Opening}
-use Rattle.frame_words.specs.Plain.{Plain}
+use Rattle.frame_words.specs.Plain.{Plain, seen_of}
 use Rattle.desk.specs.State.{State}
+use Rattle.desk.specs.Answers as answers
 use Rattle.desk.specs.Base.{Opened}
+use Rattle.desk.specs.Behind.{IsBehind}
+use Rattle.desk.specs.Moments as desk
+use Rattle.desk.specs.Moments.{Moment}
+use Rattle.desk.specs.declared.calls.Caller.{Caller}
 use Rattle.desk.specs.Logged.{IsLogged}
 use Rattle.desk.specs.Fixing.{IsGrantedBy, IsFixRefusal}
 use Rattle.desk.specs.declared.calls.Granted.{Granted}
@@ -38,6 +43,36 @@ pub record Fixes {D : Type 0} (seen : D → DiskSeen) (old new : State D) (befor
   pub known : log_end new.history ≤ is.end
   pub logged : IsLogged was old.history → IsLogged is new.history
   pub room : old.config.first + length old.history + FIX_NEED ≤ LIMIT
+
+-- from what the desk's call keeps
+pub fixes_of : {D : Type 0} (seen : D → DiskSeen) (most : ℕ) (m n : Moment D) (before after : Plain) (w : Working) → IsReady seen m.desk before w.fixed
+    → desk.Keeps seen most (record m { frames = seen_of before }) (record n { frames = seen_of after }) → log_end m.desk.history ≤ m.log.seen.end → most ≤ 4 → m.desk.config.first + length m.desk.history + FIX_NEED ≤ LIMIT
+    → Fixes seen m.desk n.desk before after m.log.seen n.log.seen w
+fixes_of seen most m n before after w ready keeps known most_is room = record {
+  ready = ready;
+  left = keeps.desk;
+  grown = omega (arith, keeps.count, most_is);
+  behind = λ o. keeps.behind o tt;
+  tied = keeps.rest.tied;
+  later = keeps.later;
+  known = keeps.known known;
+  logged = keeps.logged;
+  room = room;
+}
+
+-- why a fix was refused, and of which pages the bytes were none
+pub why_unfixed : {D : Type 0} (seen : D → DiskSeen) (m n : Moment D) (by : Caller) (held : ℕ) (p : PageId) (now : ℕ) (answer : Result Granted FixErr) → answers.Fixes seen m n by held p now answer
+    → IfErr answer (λ e. IsFixRefusal seen m.desk n.desk m.frames.rows n.frames.rows by held p now m.log.seen.durable m.log.seen.faults n.log.seen.faults e)
+why_unfixed seen m n by held p now (Ok g) is = tt
+why_unfixed seen m n by held p now (Err e) is = is.refused
+
+err_is : (x y : FixErr) → ◌≡◌ {A = Result Granted FixErr} (Err x) (Err y) → x ≡ y
+err_is x y is = cc
+
+pub unsound_fix : {D : Type 0} (seen : D → DiskSeen) (m n : Moment D) (by : Caller) (held : ℕ) (p : PageId) (now : ℕ) (answer : Result Granted FixErr) → answers.Fixes seen m n by held p now answer
+    → (o : Opened) (bad : BadPage) → IsBehind seen o m.desk m.frames → answer ≡ Err (refusal.BadPage bad) → value o.size o.base m.desk.history p ≡ None
+unsound_fix seen m n by held p now (Ok g) is o bad behind same = absurd (cc)
+unsound_fix seen m n by held p now (Err e) is o bad behind same = is.unsound o bad behind (err_is e (refusal.BadPage bad) same)
 
 pub moves_of : {D : Type 0} (seen : D → DiskSeen) (o : Opening) (start : Start) (old new : State D) (before after : Plain) (was is : Seen) (w : Working) (past : List Event)
     → Fixes seen old new before after was is w → SoFar seen o start old was w past [] → Moves seen old new was is

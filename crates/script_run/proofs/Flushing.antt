@@ -9,13 +9,13 @@ use Rattle.trail.specs.declared.event.Event.{Event}
 use Rattle.trail.specs.declared.event.Event.TheVariants as event
 use Rattle.std.specs.List.{AllByRecursion}
 use Rattle.std.specs.Option.{option_map_or}
-use Rattle.trail.specs.Alone.{AreTrue, IsTrueBy, IsTrueEvent, IsTrueKind}
+use Rattle.trail.specs.Alone.{IsTrueEvent, IsTrueKind}
+use Rattle.trail.proofs.Judging.{AreTrue}
 use Rattle.trail.specs.Trails.{mark, entries, number_of, own, receipts, caller_of, Opening}
 use Rattle.trail.specs.Kinds.{Placing, grant_in}
 use Rattle.trail.specs.Book.{book}
 use Rattle.trail.specs.History.{disk_faults, log_faults}
 use Rattle.trail.specs.Dirt.{dirty, dirt_of, pages_of}
-use Rattle.trail.specs.Words.{words_told}
 use Rattle.trail.specs.Calls.{is_answer, held_by, made as made_by, open_fixes}
 use Rattle.trail.specs.Legal.{IsTogether, written_pages}
 use Rattle.trail.specs.Preceding.{AreWrites, kinds}
@@ -42,7 +42,7 @@ FrontLeaves = (h : List Entry) (e : Entry) (d : Dirty) (rest : List Dirty) (lsn 
 pub record Flushed (by : Caller) (o : Opening) (start : Start) (disk log : ℕ) (past : List Event) (n : ℕ) (mid : List Entry) : Type 0 where
   pub writes : List Event
   pub made : List Entry
-  pub good : AreLawful o (writes ++ past)
+  pub good : AreLawful o None (writes ++ past)
   pub promised : ArePromised o start.pages (writes ++ past)
   pub entries_are : entries (writes ++ past) ≡ mid
   pub receipts_are : receipts (writes ++ past) ≡ receipts past
@@ -79,7 +79,7 @@ skip_both false x y = refl
 found_first : (ds : List Dirty) (d : Dirty) (rest : List Dirty) → ds ≡ d ∷ rest → dirt_of ds d.page ≡ Some d
 found_first ds d rest is = ap (λ (l : List Dirty). dirt_of l d.page) is ∙ ap (λ (b : Bool). cond b (Some d) (dirt_of rest d.page)) (same_self d.page)
 
-flushed_none : (by : Caller) (o : Opening) (start : Start) (disk log : ℕ) (past : List Event) → AreLawful o past → ArePromised o start.pages past → IsCalling (own by.pass past) by.number []
+flushed_none : (by : Caller) (o : Opening) (start : Start) (disk log : ℕ) (past : List Event) → AreLawful o None past → ArePromised o start.pages past → IsCalling (own by.pass past) by.number []
     → AreFaultsWithin start disk log (entries past) → Flushed by o start disk log past 0 (entries past)
 flushed_none by o start disk log past good promised calls faults = record {
   writes = [];
@@ -115,13 +115,9 @@ held_one : (b : Bool) (e : Entry) (mine : List Event) → grant_in e.kind ≡ No
 held_one true e mine none = ap (λ (g : Option Placing). option_map_or (λ (x : Placing). record { page = x.page; frame = x.frame; number = e.number } ∷ open_fixes mine) g (open_fixes mine)) none
 held_one false e mine none = refl
 
-true_write : (sole : Option ℕ) (h : List Entry) (mine : List Event) (e : Entry) (p : PageId) (lsn upto : ℕ) → e.kind ≡ kind.Write p lsn upto → IsTrueEvent sole h mine (event.Entry e)
-true_write None h mine e p lsn upto is = tt
-true_write (Some c) h mine e p lsn upto is = cases (nat_eq e.caller c)
-  where
-    cases : (b : Bool) → IsTrueBy b h mine (event.Entry e)
-    cases true = let K : Kind → Type 0 = λ k. IsTrueKind h (open_fixes mine) k in subst K (sym is) tt
-    cases false = ap words_told is
+true_write : (sole : Option ℕ) (past : List Event) (e : Entry) (p : PageId) (lsn upto : ℕ) → e.kind ≡ kind.Write p lsn upto → IsTrueEvent sole past (event.Entry e)
+true_write None past e p lsn upto is = tt
+true_write (Some c) past e p lsn upto is = let K : Kind → Type 0 = λ k. IsTrueKind (entries past) (held_by past c) k in subst K (sym is) tt
 
 flushed_more : (by : Caller) (o : Opening) (start : Start) (disk log : ℕ) (past : List Event) (n : ℕ) (mid new : List Entry) → FrontLeaves
     → Flushed by o start disk log past n mid → IsWriteBack o.first by mid new → Flushed by o start disk log past (suc n) new
@@ -135,7 +131,7 @@ flushed_more by o start disk log past n mid new front f back =
     let D : List Entry → Type 0 = λ h. dirt_of (dirty h) d.page ≡ Some d in
     let T : ℕ → Type 0 = λ m. IsTogether m (made_by by.number (own by.pass so)) in
     let place : mark o.first mid + 1 ≡ mark o.first (entries so) + 1 = ap (λ h. mark o.first h + 1) (sym f.entries_are) in
-    let lawful : IsLawful o so e = record {
+    let lawful : IsLawful o None so e = record {
       legal = record {
         place = place;
         number = numbered_by (own by.pass so) by.number f.made f.calls;
@@ -147,6 +143,7 @@ flushed_more by o start disk log past n mid new front f back =
       still = tt;
       covered = record { dirt = d; is_dirty = subst D (sym f.entries_are) found; newest = refl; logged = back.covered };
       causes = tt;
+      words = tt;
       victim = tt;
       withdrawal = tt;
     } in
@@ -182,12 +179,12 @@ flushed_more by o start disk log past n mid new front f back =
       others = λ c other. skip (nat_eq by.pass c) (e ∷ own c so) (own c so) other ∙ f.others c other;
       by_it = (refl, f.by_it);
       numbers = (refl, f.numbers);
-      exact = λ sole was. (true_write sole (entries so) (own by.pass so) x d.page d.newest back.upto refl, f.exact sole was);
+      exact = λ sole was. (true_write sole so x d.page d.newest back.upto refl, f.exact sole was);
     }
 
 -- so many writes behind a trail
 pub flushed : (by : Caller) (o : Opening) (start : Start) (disk log : ℕ) (past : List Event) (n : ℕ) (mid : List Entry) → FrontLeaves
-    → AreLawful o past → ArePromised o start.pages past → IsCalling (own by.pass past) by.number [] → AreFaultsWithin start disk log (entries past)
+    → AreLawful o None past → ArePromised o start.pages past → IsCalling (own by.pass past) by.number [] → AreFaultsWithin start disk log (entries past)
     → WritesBack o.first by n (entries past) mid → Flushed by o start disk log past n mid
 flushed by o start disk log past zero mid front good promised calls faults writes =
     let P : List Entry → Type 0 = λ h. Flushed by o start disk log past 0 h in

@@ -17,15 +17,16 @@ use Rattle.trail.specs.Calls.{calls_of, made, held_by, held_after_kind, held_aft
 use Rattle.trail.specs.Kinds.{departure_in, kind_answers, write_in}
 use Rattle.trail.specs.Book.{book}
 use Rattle.trail.specs.Legal.{IsLegalKind, IsLegalNote, IsInOrder, IsTogether}
-use Rattle.trail.specs.Preceding.{MayPrecede}
+use Rattle.trail.specs.Preceding.{MayPrecede, MayPrecedeNote}
 use Rattle.trail.specs.Still.{IsUnfixed}
 use Rattle.trail.specs.Covered.{IsCoveredWrite}
 use Rattle.trail.specs.Withdrawal.{IsWithdrawalKind}
-use Rattle.trail.specs.Alone.{IsTrueBy, IsTrueKind, IsTrueNote}
+use Rattle.trail.specs.Alone.{IsTrueEvent, IsTrueKind, IsTrueNote}
 use Rattle.trail.specs.Causes.{IsCausedKind, IsCausedNote}
 use Rattle.trail.specs.Victim.{IsVictimKind}
 use Rattle.trail.specs.Laws.{IsLawful}
 use Rattle.trail.specs.Promises.{IsPromised}
+use Rattle.trail.proofs.Judging.{with_true}
 use Rattle.desk.specs.declared.calls.Caller.{Caller}
 use Rattle.desk.specs.Changes.{LeavesDesk}
 use Rattle.desk.specs.State.{State}
@@ -105,7 +106,6 @@ so_far_placed seen o start old new was is w past so moves logged = record {
   held = so.held;
   falling = so.falling;
   alone = so.alone;
-  exact = so.exact;
 }
 
 -- and at the end of the call
@@ -123,7 +123,7 @@ pub record Adds {D : Type 0} (seen : D → DiskSeen) (o : Opening) (start : Star
   pub within : IsKindWithin start (seen desk.disk).faults log.faults k
   pub last : disk_faults_after k (disk_faults desk.history) ≤ (seen desk.disk).faults
   pub last_log : log_faults_after k (log_faults desk.history) ≤ log.faults
-  pub lawful : IsLawful o past (event.Entry (next_entry desk (me w) k))
+  pub lawful : IsLawful o None past (event.Entry (next_entry desk (me w) k))
   pub promised : IsPromised o start.pages (entries past) (own w.pass past) (event.Entry (next_entry desk (me w) k))
   pub exact : IsTrueKind desk.history w.fixed k
 
@@ -133,11 +133,10 @@ grown desk w k = record desk { history = next_entry desk (me w) k ∷ desk.histo
 
 exact_kind : {D : Type 0} (seen : D → DiskSeen) (o : Opening) (start : Start) (desk : State D) (log : Seen) (w : Working) (past : List Event) (pending : List Entry) (k : Kind)
     → SoFar seen o start desk log w past pending → IsTrueKind desk.history w.fixed k
-    → IsTrueBy (nat_eq w.pass w.pass) (entries past) (own w.pass past) (event.Entry (next_entry desk (me w) k))
+    → IsTrueEvent (Some w.pass) past (event.Entry (next_entry desk (me w) k))
 exact_kind seen o start desk log w past pending k so exact =
     let X : List Entry → List Held → Type 0 = λ h held. IsTrueKind h held k in
-    let B : Bool → Type 0 = λ b. IsTrueBy b (entries past) (own w.pass past) (event.Entry (next_entry desk (me w) k)) in
-    subst B (sym (eq-eqb w.pass w.pass refl)) (subst (λ h. X h (held_by past w.pass)) (sym so.entries_are) (subst (λ held. X desk.history held) (sym so.held) exact))
+    subst (λ h. X h (held_by past w.pass)) (sym so.entries_are) (subst (λ held. X desk.history held) (sym so.held) exact)
 
 held_more : (w : Working) (e : Entry) (past : List Event) → e.caller ≡ w.pass → e.number ≡ w.next → held_by past w.pass ≡ w.fixed → held_by (event.Entry e ∷ past) w.pass ≡ held_after_kind w.next e.kind w.fixed
 held_more w e past is number held = ap open_fixes (own_more w.pass (event.Entry e) past is) ∙ ap (λ n. held_after_kind n e.kind (held_by past w.pass)) number ∙ ap (held_after_kind w.next e.kind) held
@@ -151,7 +150,7 @@ so_far_answer seen o start desk log w past pending k so adds answers falls keeps
     let e : Entry = next_entry desk (me w) k in
     let C : List Event → Type 0 = λ mine. IsCalling mine (w.next + 1) [] in
     record {
-      good = (adds.lawful, so.good);
+      good = (with_true o None (Some w.pass) past (event.Entry e) adds.lawful (exact_kind seen o start desk log w past pending k so adds.exact), so.good);
       promised = (adds.promised, so.promised);
       entries_are = ap (λ h. e ∷ h) so.entries_are;
       receipts_are = so.receipts_are;
@@ -170,7 +169,6 @@ so_far_answer seen o start desk log w past pending k so adds answers falls keeps
       held = held_more w e past refl refl so.held;
       falling = falls;
       alone = (refl, so.alone);
-      exact = (exact_kind seen o start desk log w past pending k so adds.exact, so.exact);
     }
 
 -- an entry before the answer
@@ -181,7 +179,7 @@ so_far_under seen o start desk log w past pending k so adds silent kept keeps =
     let e : Entry = next_entry desk (me w) k in
     let C : List Event → Type 0 = λ mine. IsCalling mine w.next (e ∷ pending) in
     record {
-      good = (adds.lawful, so.good);
+      good = (with_true o None (Some w.pass) past (event.Entry e) adds.lawful (exact_kind seen o start desk log w past pending k so adds.exact), so.good);
       promised = (adds.promised, so.promised);
       entries_are = ap (λ h. e ∷ h) so.entries_are;
       receipts_are = so.receipts_are;
@@ -200,7 +198,6 @@ so_far_under seen o start desk log w past pending k so adds silent kept keeps =
       held = held_more w e past refl refl so.held ∙ kept;
       falling = so.falling;
       alone = (refl, so.alone);
-      exact = (exact_kind seen o start desk log w past pending k so adds.exact, so.exact);
     }
   where
     some_made : (e : Entry) (made : List Entry) → e ∷ made ≡ [] → ⊥
@@ -208,16 +205,15 @@ so_far_under seen o start desk log w past pending k so adds silent kept keeps =
 
 -- a receipt; the worker's receipts tell no words
 pub so_far_receipt : {D : Type 0} (seen : D → DiskSeen) (o : Opening) (start : Start) (desk : State D) (log : Seen) (w : Working) (past : List Event) (n : Note)
-    → SoFar seen o start desk log w past [] → IsLawful o past (event.Receipt (next_receipt desk w n)) → IsPromised o start.pages (entries past) (own w.pass past) (event.Receipt (next_receipt desk w n))
+    → SoFar seen o start desk log w past [] → IsLawful o None past (event.Receipt (next_receipt desk w n)) → IsPromised o start.pages (entries past) (own w.pass past) (event.Receipt (next_receipt desk w n))
     → IsTrueNote (entries past) (held_by past w.pass) n
     → SoFar seen o start desk log (with_note desk w n) (event.Receipt (next_receipt desk w n) ∷ past) []
 so_far_receipt {D} seen o start desk log w past n so lawful promised exact =
     let r = next_receipt desk w n in
     let C : List Event → Type 0 = λ mine. IsCalling mine (w.next + 1) [] in
-    let B : Bool → Type 0 = λ b. IsTrueBy b (entries past) (own w.pass past) (event.Receipt r) in
     let mine = own_more w.pass (event.Receipt r) past refl in
     record {
-      good = (lawful, so.good);
+      good = (with_true o None (Some w.pass) past (event.Receipt r) lawful exact, so.good);
       promised = (promised, so.promised);
       entries_are = so.entries_are;
       receipts_are = ap (λ rs. r ∷ rs) so.receipts_are;
@@ -236,15 +232,14 @@ so_far_receipt {D} seen o start desk log w past n so lawful promised exact =
       held = ap open_fixes mine ∙ ap (held_after_note w.next n) so.held;
       falling = falling_note w.next n w.fixed so.falling;
       alone = (refl, so.alone);
-      exact = (subst B (sym (eq-eqb w.pass w.pass refl)) exact, so.exact);
     }
 
 -- A lawful entry of the worker's call, which began at the history `base`.
 pub lawful_entry : {D : Type 0} (seen : D → DiskSeen) (o : Opening) (start : Start) (desk : State D) (log : Seen) (w : Working) (past : List Event) (pending base : List Entry) (k : Kind)
     → SoFar seen o start desk log w past pending → desk.history ≡ pending ++ base → MayPrecede desk.history pending k → IsLegalKind o (entries past) (own w.pass past) w.pass w.next k
     → IfSome (departure_in k) (λ d. IsUnfixed past d.page) → IfSome (write_in k) (λ v. IsCoveredWrite (entries past) v.page v.lsn v.upto)
-    → IsCausedKind o (entries past) (own w.pass past) w.pass w.next k → IsVictimKind o.config (entries past) w.pass w.next k → IsWithdrawalKind o.config (entries past) w.pass w.next k
-    → IsLawful o past (event.Entry (next_entry desk (me w) k))
+    → IsCausedKind o past (entries past) (own w.pass past) w.pass w.next k → IsVictimKind o.config (entries past) w.pass w.next k → IsWithdrawalKind o.config (entries past) w.pass w.next k
+    → IsLawful o None past (event.Entry (next_entry desk (me w) k))
 lawful_entry seen o start desk log w past pending base k so stands before legal still covered causes victim withdrawal =
     let P : List Entry → List Entry → Type 0 = λ h made. MayPrecede h made k in
     let T : ℕ → Type 0 = λ n. IsTogether n (made w.next (own w.pass past)) in
@@ -261,6 +256,7 @@ lawful_entry seen o start desk log w past pending base k so stands before legal 
       still = still;
       covered = covered;
       causes = causes;
+      words = tt;
       victim = victim;
       withdrawal = withdrawal;
     }
@@ -277,18 +273,20 @@ in_order_of place (event.Receipt r ∷ past) c n note of less = inr (of.0, last_
 
 -- a lawful receipt of the worker's call; the worker is the only caller, so its receipts rise
 pub lawful_receipt : {D : Type 0} (seen : D → DiskSeen) (o : Opening) (start : Start) (desk : State D) (log : Seen) (w : Working) (past : List Event) (n : Note)
-    → SoFar seen o start desk log w past [] → IsLegalNote o (entries past) (own w.pass past) n → IsCausedNote o (entries past) (own w.pass past) w.pass w.next n
-    → IsLawful o past (event.Receipt (next_receipt desk w n))
-lawful_receipt seen o start desk log w past n so legal causes = record {
+    → SoFar seen o start desk log w past [] → MayPrecedeNote (entries past) [] n → IsLegalNote o (entries past) (own w.pass past) n → IsCausedNote o past (entries past) (own w.pass past) w.pass w.next n
+    → IsLawful o None past (event.Receipt (next_receipt desk w n))
+lawful_receipt seen o start desk log w past n so before legal causes = record {
   legal = record {
     place = ap (λ m. mark m desk.history) so.first_is ∙ ap (mark o.first) (sym so.entries_are);
-    number = next_by (own w.pass past) w.next so.calls;
+    number = numbered_by (own w.pass past) w.next [] so.calls;
+    before = subst (λ (entries_made : List Entry). MayPrecedeNote (entries past) entries_made n) (sym so.calls.made_are) before;
     note = legal;
   };
   order = in_order_of (mark desk.config.first desk.history) past w.pass w.next n so.alone (let c = next_by (own w.pass past) w.next so.calls in omega (arith, c));
   still = tt;
   covered = tt;
   causes = causes;
+  words = tt;
   victim = tt;
   withdrawal = tt;
 }
@@ -298,6 +296,6 @@ pub room_of : {D : Type 0} (seen : D → DiskSeen) (o : Opening) (start : Start)
     → SoFar seen o start desk log w past pending → desk.config.first + length desk.history + need ≤ LIMIT → mark desk.config.first desk.history + need ≤ LIMIT
 room_of seen o start desk log w past pending need so room =
     let N : ℕ → List Entry → Type 0 = λ n h. AreNumbered n h in
-    let numbered : AreNumbered desk.config.first desk.history = subst (λ n. N n desk.history) (sym so.first_is) (subst (λ h. N o.first h) so.entries_are (numbered_entries o past so.good)) in
+    let numbered : AreNumbered desk.config.first desk.history = subst (λ n. N n desk.history) (sym so.first_is) (subst (λ h. N o.first h) so.entries_are (numbered_entries _ o past so.good)) in
     let count = marks desk.config.first desk.history numbered in
     omega (arith, count, room)

@@ -57,7 +57,7 @@ free_create o past c n p now fixed h are few at absent =
 -- a create got as far as its own causes
 create_reached : {D : Type 0} (seen : D → DiskSeen) (o : Opening) (start : Start) (desk : State D) (log : Seen) (w : Working) (past : List Event) (pending base : List Entry) (p : PageId) (now : ℕ)
     → SoFar seen o start desk log w past pending → desk.history ≡ pending ++ base → mark desk.config.first base + CREATE_NEED ≤ LIMIT → p.page < start.pages p.space
-    → IsReached o (entries past) (made w.next (own w.pass past)) w.pass w.next (call.Create p now)
+    → IsReached o past (entries past) (made w.next (own w.pass past)) w.pass w.next (call.Create p now)
 create_reached seen o start desk log w past pending base p now so stands room inside = reached seen o start desk log w past pending base (call.Create p now) CREATE_NEED so stands refl room inside
 
 -- the log's end, where a frame was had
@@ -142,7 +142,7 @@ unmade_behind : {D : Type 0} (seen : D → DiskSeen) (o : Opening) (start : Star
     → (r : Readied seen o start old new log w past p h) → Left seen old new → new.history ≡ entry_behind old.config.first h (me w) (kind.Refused (call.Create p now) why) ∷ h
     → IsLoggedKind log (kind.Refused (call.Create p now) why) → IsCauseWithin start (seen new.disk).faults log.faults why
     → unwrap_or (disk_fault why) (disk_faults h) ≤ (seen new.disk).faults → unwrap_or (log_fault why) (log_faults h) ≤ log.faults
-    → MayPrecedeRefusal h r.made (call.Create p now) why → IsRefused o (entries (r.more ++ past)) (own w.pass (r.more ++ past)) w.pass w.next (call.Create p now) why → IsTrueRefusal h w.fixed (call.Create p now) why
+    → MayPrecedeRefusal h r.made (call.Create p now) why → IsRefused o (r.more ++ past) (entries (r.more ++ past)) (own w.pass (r.more ++ past)) w.pass w.next (call.Create p now) why → IsTrueRefusal h w.fixed (call.Create p now) why
     → IsOfSpaces start.pages (kind.Refused (call.Create p now) why) → IsTrue (is_own (call.Create p now) why) → is_noted why ≡ false → TellsRising why → is_late (call.Create p now) why ≡ true
     → Does seen o start new log (with_answer w (kind.Refused (call.Create p now) why)) past (command.Create p now)
 unmade_behind seen o start old new log w past p now why h r left came logged within last last_log precedes refused exact of own_is entered rising late =
@@ -154,7 +154,7 @@ unmade_alone : {D : Type 0} (seen : D → DiskSeen) (o : Opening) (start : Start
     → (so : SoFar seen o start old was w past []) → Moves seen old new was is → IsAppended old new (me w) (kind.Refused (call.Create p now) why)
     → IsLoggedKind is (kind.Refused (call.Create p now) why) → IsCauseWithin start (seen new.disk).faults is.faults why
     → unwrap_or (disk_fault why) (disk_faults old.history) ≤ (seen new.disk).faults → unwrap_or (log_fault why) (log_faults old.history) ≤ is.faults
-    → MayPrecedeRefusal old.history [] (call.Create p now) why → IsRefused o (entries past) (own w.pass past) w.pass w.next (call.Create p now) why → IsTrueRefusal old.history w.fixed (call.Create p now) why
+    → MayPrecedeRefusal old.history [] (call.Create p now) why → IsRefused o past (entries past) (own w.pass past) w.pass w.next (call.Create p now) why → IsTrueRefusal old.history w.fixed (call.Create p now) why
     → IsOfSpaces start.pages (kind.Refused (call.Create p now) why) → IsTrue (is_own (call.Create p now) why) → is_noted why ≡ false → TellsRising why
     → Does seen o start new is (with_answer w (kind.Refused (call.Create p now) why)) past (command.Create p now)
 unmade_alone seen o start old new was is w past p now why so moves entry logged within last last_log precedes refused exact of own_is entered rising =
@@ -170,7 +170,7 @@ create_outside seen o start old new was is w past p now pages so moves out room 
     unmade_alone seen o start old new was is w past p now why so moves out.entry tt tt (omega (arith, so.last_fault, moves.left.later)) (omega (arith, so.last_log_fault, moves.later))
     (tt, refl) (
       places seen o start old was w past [] old.history (call.Create p now) CREATE_NEED so refl refl room,
-      outside_of start.pages (entries past) p pages (spaces_of o start.pages past so.promised p.space) count out.past_end,
+      outside_of start.pages past p pages (spaces_of o start.pages past so.promised p.space) count out.past_end,
     ) (wordless old.history w.fixed (call.Create p now) why refl refl refl) (record { inside = tt; told = count }) refl refl tt
 
 pub create_full : {D : Type 0} (seen : D → DiskSeen) (o : Opening) (start : Start) (old new : State D) (was is : Seen) (w : Working) (past : List Event) (p : PageId) (now held full : ℕ)
@@ -256,7 +256,7 @@ create_spent seen o start old new frames was is w past p now end so moves ready 
     let first = so_far_placed seen o start old new was is w past so moves (logged_before old had is (me w) out.frame out.frame_is logged) in
     let r = readied seen o start old new had frames is w past p out.frame first ready logged out.absent out.frame_is in
     let here = in_space seen o start old was w past [] p so inside in
-    let told : told_end (entries past) ≤ was.end = told_below o past was so.good (subst (λ (l : List Entry). IsLogged was l) (sym so.entries_are) so.logged) (subst (λ (l : List Entry). log_end l ≤ was.end) (sym so.entries_are) known) in
+    let told : told_end (entries past) ≤ was.end = told_below _ o past was so.good (subst (λ (l : List Entry). IsLogged was l) (sym so.entries_are) so.logged) (subst (λ (l : List Entry). log_end l ≤ was.end) (sym so.entries_are) known) in
     let same : told_end (entries (r.more ++ past)) ≡ told_end (entries past) = ap told_end r.so_far.entries_are ∙ had_told old had (me w) out.frame out.frame_is ∙ ap told_end (sym so.entries_are) in
     let absent : home had.history p ≡ None = had_absent old had p (me w) out.frame out.absent out.frame_is in
     unmade_behind seen o start old new is w past p now why had.history r moves.left came out.known.1 tt r.so_far.last_fault r.so_far.last_log_fault

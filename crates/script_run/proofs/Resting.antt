@@ -103,13 +103,13 @@ kind_kept o h mine c n log told durable (kind.Unwatch p) records legal logged le
 kind_kept o h mine c n log told durable (kind.Dump pct ids) records legal logged le = (tt, le)
 kind_kept o h mine c n log told durable (kind.Refused asked why) records legal logged le = (tt, le)
 
-pub are_kept : (o : Opening) (past : List Event) (log : Seen) (told : Option Told) (durable : ℕ) → Records log told durable → AreLawful o past → IsLogged log (entries past) → log_end (entries past) ≤ durable
+pub are_kept : (sole : Option ℕ) (o : Opening) (past : List Event) (log : Seen) (told : Option Told) (durable : ℕ) → Records log told durable → AreLawful o sole past → IsLogged log (entries past) → log_end (entries past) ≤ durable
     → KeepsRecords log.first told (entries past)
-are_kept o [] log told durable records good logged le = tt
-are_kept o (event.Entry e ∷ past) log told durable records good logged le =
+are_kept sole o [] log told durable records good logged le = tt
+are_kept sole o (event.Entry e ∷ past) log told durable records good logged le =
     let here = kind_kept o (entries past) (own e.caller past) e.caller e.number log told durable e.kind records good.0.legal.kind logged.0 le in
-    (here.0, are_kept o past log told durable records good.1 logged.1 here.1)
-are_kept o (event.Receipt r ∷ past) log told durable records good logged le = are_kept o past log told durable records good.1 logged le
+    (here.0, are_kept _ o past log told durable records good.1 logged.1 here.1)
+are_kept sole o (event.Receipt r ∷ past) log told durable records good logged le = are_kept _ o past log told durable records good.1 logged le
 
 kind_kept_below : (o : Opening) (h : List Entry) (mine : List Event) (c n : ℕ) (log : Seen) (told : Option Told) (durable : ℕ) (k : Kind) → Records log told durable → IsLegalKind o h mine c n k → IsLoggedKind log k
     → IsKeptBelow log.first durable told k
@@ -135,12 +135,12 @@ kind_kept_below o h mine c n log told durable (kind.Dump pct ids) records legal 
 kind_kept_below o h mine c n log told durable (kind.Refused asked why) records legal logged = tt
 
 -- whether or not the closing flush failed
-pub are_kept_below : (o : Opening) (past : List Event) (log : Seen) (told : Option Told) (durable : ℕ) → Records log told durable → AreLawful o past → IsLogged log (entries past)
+pub are_kept_below : (sole : Option ℕ) (o : Opening) (past : List Event) (log : Seen) (told : Option Told) (durable : ℕ) → Records log told durable → AreLawful o sole past → IsLogged log (entries past)
     → KeepsRecordsBelow log.first durable told (entries past)
-are_kept_below o [] log told durable records good logged = tt
-are_kept_below o (event.Entry e ∷ past) log told durable records good logged =
-    (kind_kept_below o (entries past) (own e.caller past) e.caller e.number log told durable e.kind records good.0.legal.kind logged.0, are_kept_below o past log told durable records good.1 logged.1)
-are_kept_below o (event.Receipt r ∷ past) log told durable records good logged = are_kept_below o past log told durable records good.1 logged
+are_kept_below sole o [] log told durable records good logged = tt
+are_kept_below sole o (event.Entry e ∷ past) log told durable records good logged =
+    (kind_kept_below o (entries past) (own e.caller past) e.caller e.number log told durable e.kind records good.0.legal.kind logged.0, are_kept_below _ o past log told durable records good.1 logged.1)
+are_kept_below sole o (event.Receipt r ∷ past) log told durable records good logged = are_kept_below _ o past log told durable records good.1 logged
 
 -- nothing but the log's bytes came behind what the log kept at its opening
 pub extended : (opened : ℕ) (was now : Option Told) (log : Seen) → IsAllKept opened was log now → IfSome was (IsOpening opened) → IsExtended was now

@@ -13,7 +13,8 @@ use Rattle.trail.specs.History.{home}
 use Rattle.trail.specs.Calls.{newest_fix}
 use Rattle.frame_words.specs.Plain.{Plain}
 use Rattle.frame_words.specs.Rows.{Row, claimed_row}
-use Rattle.desk.specs.Ledger.{IsVacant, entry_behind}
+use Rattle.instance_lists.specs.Ledger.{IsVacant}
+use Rattle.desk.specs.Ledger.{entry_behind}
 use Rattle.desk.specs.State.{State}
 use Rattle.desk.specs.Steps.{row_in}
 use Rattle.desk.specs.Victims.{IsHad, IsEvicted, IsCleanedFirst}

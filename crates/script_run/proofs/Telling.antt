@@ -63,12 +63,12 @@ kind_ends o h mine c n log (kind.Unwatch p) legal logged le = (tt, le)
 kind_ends o h mine c n log (kind.Dump pct ids) legal logged le = (tt, le)
 kind_ends o h mine c n log (kind.Refused asked why) legal logged le = (cause_ends log why logged, le)
 
-pub ends_behind : (o : Opening) (past : List Event) (log : Seen) → AreLawful o past → IsLogged log (entries past) → log_end (entries past) ≤ log.end → EndsBehind log.end (entries past)
-ends_behind o [] log good logged le = tt
-ends_behind o (event.Entry e ∷ past) log good logged le =
+pub ends_behind : (sole : Option ℕ) (o : Opening) (past : List Event) (log : Seen) → AreLawful o sole past → IsLogged log (entries past) → log_end (entries past) ≤ log.end → EndsBehind log.end (entries past)
+ends_behind sole o [] log good logged le = tt
+ends_behind sole o (event.Entry e ∷ past) log good logged le =
     let here = kind_ends o (entries past) (own e.caller past) e.caller e.number log e.kind good.0.legal.kind logged.0 le in
-    (here.0, ends_behind o past log good.1 logged.1 here.1)
-ends_behind o (event.Receipt r ∷ past) log good logged le = ends_behind o past log good.1 logged le
+    (here.0, ends_behind _ o past log good.1 logged.1 here.1)
+ends_behind sole o (event.Receipt r ∷ past) log good logged le = ends_behind _ o past log good.1 logged le
 
 most_below : (m n k : ℕ) → m ≤ k → n ≤ k → most m n ≤ k
 most_below m n k first next = cases (nat_le m n)
@@ -108,5 +108,5 @@ told_of_ends end [] is = omega arith
 told_of_ends end (e ∷ h) is = told_after end (told_end h) e.kind is.0 (told_of_ends end h is.1)
 
 -- so every end that was told lies at or before the log's
-pub told_below : (o : Opening) (past : List Event) (log : Seen) → AreLawful o past → IsLogged log (entries past) → log_end (entries past) ≤ log.end → told_end (entries past) ≤ log.end
-told_below o past log good logged le = told_of_ends log.end (entries past) (ends_behind o past log good logged le)
+pub told_below : (sole : Option ℕ) (o : Opening) (past : List Event) (log : Seen) → AreLawful o sole past → IsLogged log (entries past) → log_end (entries past) ≤ log.end → told_end (entries past) ≤ log.end
+told_below sole o past log good logged le = told_of_ends log.end (entries past) (ends_behind _ o past log good logged le)

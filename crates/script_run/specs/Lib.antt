@@ -4,3 +4,4 @@ pub mod Work
 pub mod Workers
 pub mod Ends
 pub mod Runs
+pub mod Plain

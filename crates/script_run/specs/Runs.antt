@@ -7,7 +7,7 @@ use Rattle.page_ids.specs.Layout.{IsPage}
 use Rattle.page_ids.specs.Size.{page_bytes}
 use Rattle.page_ids.specs.declared.ids.PageId.{PageId}
 use Rattle.page_disk.specs.Disks.{DiskSeen, pages_in}
-use Rattle.page_disk.specs.Shelves.{Asked}
+use Rattle.page_disk.specs.Shelves.{Asked, OfferedDisk, OfferedLog}
 use Rattle.page_disk.specs.declared.shelf.FaultAt.{FaultAt}
 use Rattle.trail.specs.declared.event.Call.TheVariants as call
 use Rattle.trail.specs.declared.event.Cause.{Cause}
@@ -32,7 +32,7 @@ use Rattle.desk.specs.Base.{IsBase}
 use Rattle.desk.specs.Reads.{RoseWithin}
 use Rattle.desk.specs.Logged.{put_change, create_change}
 use Rattle.desk.specs.Changes.{IsCleanedBy}
-use Rattle.redo_mark.specs.Device.{Told}
+use Rattle.redo_mark.specs.Device.{Told, RedoSeen}
 use Rattle.redo_mark.specs.Logs.{IsKeptAt}
 use Rattle.redo_mark.specs.Records.{record_of}
 use Rattle.redo_mark.specs.declared.redo.RedoEnd.{RedoEnd}
@@ -75,28 +75,16 @@ pub record IsRunOf (o : Opening) (pages : ℕ → ℕ) (commands : List Command)
   pub others : AreOfOneThread (reverse trail.events)
   pub clean : fault ≡ None → dirty (entries (reverse trail.events)) ≡ []
 
--- what a shelf tells of the disk and the log that it hands out
-pub record Handed : Type 0 where
-  pub told : PageId → Option (List ℕ)
-  pub spaces : Option (ℕ → Option ℕ)
-  pub disk_faults : Option ℕ
-  pub log : Option Told
-  pub log_faults : Option ℕ
+-- a disk and a log's device, offered with all that they tell
+abbrev pub disk_as : DiskSeen → OfferedDisk
+disk_as disk = record { told = disk.told; spaces = Some disk.spaces; faults = Some disk.faults }
 
-abbrev pub handed : (PageId → Option (List ℕ)) → Option (ℕ → Option ℕ) → Option ℕ → Option Told → Option ℕ → Handed
-handed told spaces disk_faults log log_faults = record { told = told; spaces = spaces; disk_faults = disk_faults; log = log; log_faults = log_faults }
+abbrev pub log_as : RedoSeen → OfferedLog
+log_as device = record { told = device.told; faults = Some device.faults }
 
-abbrev pub start_of : Handed → (ℕ → ℕ) → Start
-start_of shelf pages = record { told = shelf.told; pages = pages; disk_faults = unwrap_or shelf.disk_faults 0; log_faults = unwrap_or shelf.log_faults 0 }
-
--- what a log's device is to a run: what it tells, its length at its opening, and its count of faults
-pub record Reports (R : Type 0) : Type 0 where
-  pub told : R → Option Told
-  pub opened : R → ℕ
-  pub faults : R → ℕ
-
-abbrev pub reports : {R : Type 0} → (R → Option Told) → (R → ℕ) → (R → ℕ) → Reports R
-reports told opened faults = record { told = told; opened = opened; faults = faults }
+-- the start of a run on a disk and a log that were offered so; a count that isn't told is taken as 0
+abbrev pub start_of : OfferedDisk → OfferedLog → (ℕ → ℕ) → Start
+start_of disk log pages = record { told = disk.told; pages = pages; disk_faults = unwrap_or disk.faults 0; log_faults = unwrap_or log.faults 0 }
 
 -- a told page is a page for what the history says was last written of it, and as it was handed out where nothing was
 abbrev pub IsSavedPage : Bool → Option (List ℕ) → Option Content → PageId → List ℕ → Type 0
@@ -155,15 +143,15 @@ IsExtended was now = IfSome was (λ s. IsSomeAnd now (λ t. (more : List ℕ) ×
 
 -- What the log holds behind a trail: its end is behind each change and each end that the trail names, it is durable up to where each write says, what it keeps ends at its
 -- durable mark, and it keeps the record of each change that ends there or before; where the closing flush did not fail, it is durable up to its end and keeps each change.
-pub record IsLogOf {R : Type 0} (lsn : ℕ) (was : Option Told) (report : Reports R) (log : RedoEnd R) (fault : Option FaultAt) (h : List Entry) : Type 0 where
+pub record IsLogOf {R : Type 0} (lsn : ℕ) (was : Option Told) (log_seen : R → RedoSeen) (log : RedoEnd R) (fault : Option FaultAt) (h : List Entry) : Type 0 where
   pub ends : EndsBehind log.end h
   pub durable : log.durable ≤ log.end
   pub marks : AreDurable log.durable h
   pub whole : fault ≡ None → log.durable ≡ log.end
-  pub long : IfSome was (λ s. IsSomeAnd (report.told log.disk) (λ t. lsn + length t.kept ≡ log.durable))
-  pub extended : IsExtended was (report.told log.disk)
-  pub settled : KeepsRecordsBelow lsn log.durable (report.told log.disk) h
-  pub kept : fault ≡ None → KeepsRecords lsn (report.told log.disk) h
+  pub long : IfSome was (λ s. IsSomeAnd (log_seen log.disk).told (λ t. lsn + length t.kept ≡ log.durable))
+  pub extended : IsExtended was (log_seen log.disk).told
+  pub settled : KeepsRecordsBelow lsn log.durable (log_seen log.disk).told h
+  pub kept : fault ≡ None → KeepsRecords lsn (log_seen log.disk).told h
 
 abbrev pub is_refused_kind : Kind → Bool
 is_refused_kind (kind.Refused asked why) = true
@@ -178,9 +166,9 @@ abbrev pub is_refused : Event → Bool
 is_refused (event.Entry e) = is_refused_kind e.kind
 is_refused (event.Receipt r) = is_refused_note r.note
 
--- A script was run to its end on the disk of instance 0 and the log that the shelf handed out.
-pub record IsEndedRun {D R : Type 0} (shelf : Handed) (seen : D → DiskSeen) (report : Reports R) (plan : Plan) (fault : Option FaultAt)
-    (trails : List Events) (disks : List D) (log : Option (RedoEnd R)) : Type 0 where
+-- A script was run to its end on a disk and a log that were offered so.
+pub record IsEndedRun {D R : Type 0} (given : OfferedDisk) (given_log : OfferedLog) (seen : D → DiskSeen) (log_seen : R → RedoSeen) (plan : Plan)
+    (fault : Option FaultAt) (trails : List Events) (disks : List D) (log : Option (RedoEnd R)) : Type 0 where
   pub trail : Events
   pub disk : D
   pub end : RedoEnd R
@@ -188,36 +176,36 @@ pub record IsEndedRun {D R : Type 0} (shelf : Handed) (seen : D → DiskSeen) (r
   pub disks_are : disks ≡ disk ∷ []
   pub log_is : log ≡ Some end
   -- over every base that the disk's told bytes give, and without values where it doesn't tell
-  pub run : (base : Option (PageId → Option Content)) → IfSome base (λ first. IsBase shelf.told (pages_in (seen disk).spaces) first)
+  pub run : (base : Option (PageId → Option Content)) → IfSome base (λ first. IsBase given.told (pages_in (seen disk).spaces) first)
       → IsRunOf (opening_of plan.config base) (pages_in (seen disk).spaces) (commands_of plan) fault trail
   -- each fault that the trail tells lies between the count with which its device was handed out, where that is told, and its count now
-  pub faults : AreFaultsWithin (start_of shelf (pages_in (seen disk).spaces)) (seen disk).faults (report.faults end.disk) (entries (reverse trail.events))
-  pub spaces_are : IfSome shelf.spaces (λ known. (s : ℕ) → (seen disk).spaces s ≡ known s)
-  pub holds : (base : PageId → Option Content) → IsBase shelf.told (pages_in (seen disk).spaces) base
-      → IsDiskOf (page_bytes plan.config.page) base (pages_in (seen disk).spaces) shelf.told (seen disk).told fault (entries (reverse trail.events))
-  pub logs : IsLogOf plan.config.lsn shelf.log report end fault (entries (reverse trail.events))
+  pub faults : AreFaultsWithin (start_of given given_log (pages_in (seen disk).spaces)) (seen disk).faults (log_seen end.disk).faults (entries (reverse trail.events))
+  pub spaces_are : IfSome given.spaces (λ known. (s : ℕ) → (seen disk).spaces s ≡ known s)
+  pub holds : (base : PageId → Option Content) → IsBase given.told (pages_in (seen disk).spaces) base
+      → IsDiskOf (page_bytes plan.config.page) base (pages_in (seen disk).spaces) given.told (seen disk).told fault (entries (reverse trail.events))
+  pub logs : IsLogOf plan.config.lsn given_log.told log_seen end fault (entries (reverse trail.events))
 
 -- And the script is what the source had left, where that is told.
-pub record IsEnded {D R : Type 0} (left : Option (List ℕ)) (shelf : Handed) (seen : D → DiskSeen) (report : Reports R) (fault : Option FaultAt)
-    (trails : List Events) (disks : List D) (log : Option (RedoEnd R)) : Type 0 where
+pub record IsEnded {D R : Type 0} (left : Option (List ℕ)) (given : OfferedDisk) (given_log : OfferedLog) (seen : D → DiskSeen) (log_seen : R → RedoSeen)
+    (fault : Option FaultAt) (trails : List Events) (disks : List D) (log : Option (RedoEnd R)) : Type 0 where
   pub plan : Plan
   pub script : (bytes : List ℕ) → left ≡ Some bytes → IsScript bytes plan
-  pub run : IsEndedRun shelf seen report plan fault trails disks log
+  pub run : IsEndedRun given given_log seen log_seen plan fault trails disks log
 
 -- A log that was handed back as it was opened: its end and how far it is durable are its length then, and it tells what it told then.
-pub record IsLogAsOpened {R : Type 0} (was : Option Told) (report : Reports R) (log : RedoEnd R) : Type 0 where
-  pub ends : log.end ≡ report.opened log.disk
+pub record IsLogAsOpened {R : Type 0} (was : Option Told) (log_seen : R → RedoSeen) (log : RedoEnd R) : Type 0 where
+  pub ends : log.end ≡ (log_seen log.disk).opened
   pub durable : log.durable ≡ log.end
-  pub told : report.told log.disk ≡ was
+  pub told : (log_seen log.disk).told ≡ was
 
 -- The log is too long for the script's `lsn`: its last byte would have an LSN above 2^63. It is handed back as it was opened.
-pub record IsLongLog {R : Type 0} (left : Option (List ℕ)) (was : Option Told) (report : Reports R) (line : ℕ) (log : Option (RedoEnd R)) : Type 0 where
+pub record IsLongLog {R : Type 0} (left : Option (List ℕ)) (was : Option Told) (log_seen : R → RedoSeen) (line : ℕ) (log : Option (RedoEnd R)) : Type 0 where
   pub plan : Plan
   pub script : (bytes : List ℕ) → left ≡ Some bytes → IsScript bytes plan
   pub end : RedoEnd R
   pub log_is : log ≡ Some end
   pub whole : line ≡ 0
-  pub opened : IsLogAsOpened was report end
+  pub opened : IsLogAsOpened was log_seen end
   pub beyond : 2 ^ 63 < plan.config.lsn + end.end
 
 -- the statuses at which a script was run to its end, and trails and disks are handed back

@@ -12,7 +12,6 @@ use Rattle.trail.specs.declared.event.Kind.TheVariants as kind
 use Rattle.trail.specs.declared.event.Entry.{Entry}
 use Rattle.trail.specs.declared.event.Held.{Held}
 use Rattle.trail.specs.declared.event.Event.{Event}
-use Rattle.trail.specs.Alone.{AreTrue}
 use Rattle.trail.specs.Trails.{mark, entries, receipts, caller_of, Opening, own}
 use Rattle.trail.specs.History.{home, disk_faults, log_faults}
 use Rattle.trail.specs.Dirt.{log_end}
@@ -82,7 +81,8 @@ AreSteady h = AllByRecursion (λ (e : Entry). leaves_chunks e.kind ≡ true) h
 
 -- What stands between two calls of a worker, or between two entries of one, which has made these entries; the devices were handed out so.
 pub record SoFar {D : Type 0} (seen : D → DiskSeen) (o : Opening) (start : Start) (desk : State D) (log : Seen) (worker : Working) (past : List Event) (pending : List Entry) : Type 0 where
-  pub good : AreLawful o past
+  -- the worker is the only caller, so the words that it found are just what the trail says
+  pub good : AreLawful o (Some worker.pass) past
   pub promised : ArePromised o start.pages past
   pub entries_are : entries past ≡ desk.history
   pub receipts_are : receipts past ≡ worker.account
@@ -102,8 +102,6 @@ pub record SoFar {D : Type 0} (seen : D → DiskSeen) (o : Opening) (start : Sta
   pub held : held_by past worker.pass ≡ worker.fixed
   pub falling : AreFalling worker.next worker.fixed
   pub alone : AreOf worker.pass past
-  -- the worker is the only caller, so the words that it found are just what the trail says
-  pub exact : AreTrue (Some worker.pass) past
 
 -- what stands on the disk and in the frames behind a desk
 abbrev pub IsBehindIt : {D : Type 0} → (D → DiskSeen) → Opened → State D → Plain → Type 0

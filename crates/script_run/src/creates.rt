@@ -9,7 +9,7 @@ ghost use Rattle.script_run.specs.Openings.{Start};
 ghost use Rattle.script_run.specs.Work.{SoFar, Does, Along, IsReady, RefusesCreate};
 ghost use Rattle.script_run.specs.Workers.{working};
 
-use crate::worker::Worker;
+use crate::pass::Pass;
 use desk::{Caller, CreateErr, Desk, Granted};
 use frame_words::PlainFrames;
 use page_disk::PageDisk;
@@ -35,7 +35,7 @@ fn made_in(answer: Result<Granted, CreateErr>) -> Result<Option<Granted>, OutOfM
     }
 }
 
-impl Worker {
+impl Pass {
     /// Makes a page, which is then fixed. A refusal is an answer too.
     pub(crate) fn create<D: PageDisk, R: RedoDisk>(
         &mut self,

@@ -1,10 +1,13 @@
-//! Reading a script to its end, and writing a text whole.
-ghost use Rattle.std.specs.Prelude.{◌≡◌, ◌≤◌, ◌<◌, ◌+◌, ◌⊎◌, ◌++◌, [], ℕ, List, true, false, Some, IfOk, IfErr, OnOk, OnErr, length, take, vec_len};
+//! Reading a script from a source, and writing a text whole.
+ghost use Rattle.std.specs.Prelude.{◌≡◌, ◌≤◌, ◌<◌, ◌+◌, ◌⊎◌, ◌++◌, [], ℕ, List, true, false, Some, IfOk, IfErr, OnOk, OnErr, IsErrAnd, length, take, vec_len};
+ghost use Rattle.script_text.specs.Verdict.{IsBad};
+ghost use Rattle.script_text.specs.Within.{IsWithin};
 ghost use Rattle.page_ids.specs.Faults.{Rose};
-ghost use Rattle.script_run.specs.Ends.{IsReadErr, IsTakenWithin};
+ghost use Rattle.script_run.specs.Ends.{IsReadErr, IsTakenWithin, IsTakenScript, IsNoScriptErr, IsBadAt};
 
 use page_disk::{Sink, Source};
 use page_ids::Failed;
+use script_text::{Script, ScriptErr, read_script};
 use std::alloc::Global;
 
 /// A script has at most 1048576 bytes; one more shows that it is too long, and what follows is not read.
@@ -80,6 +83,37 @@ pub(crate) fn read_all<S: Source>(alloc: Global, source: &mut S) -> Result<Vec<u
         }
     }
     Ok(all)
+}
+
+/// Why a source gave no script.
+#[derive(Clone, Copy, Debug)]
+pub(crate) enum NoScript {
+    /// The source failed.
+    Fault,
+    /// What it gave is none; the line is the first bad one, or 0 for a fault of the whole.
+    Bad { line: u32 },
+    OutOfMemory,
+}
+
+/// Reads the script that a source gives, to its end.
+pub(crate) fn take_script<S: Source>(alloc: Global, source: &mut S) -> Result<Script, NoScript>
+    ensures read { IfOk result (λ script. IsTakenScript (S.left source.old) (S.left source.new) script) }
+    ensures within { IfOk result (λ script. IsWithin script) }
+    ensures taken { IsTakenWithin 0 1048577 (S.left source.old) (S.left source.new) }
+    ensures refused { IfErr result (IsNoScriptErr (S.left source.old) (S.fault_count source.old) (S.fault_count source.new)) }
+    ensures bad { (bytes : List ℕ) (n : ℕ) → S.left source.old ≡ Some bytes → IsBad bytes n
+        → IsErrAnd result (IsBadAt n) }
+{
+    let bytes = match read_all(alloc, source) {
+        Ok(bytes) => bytes,
+        Err(ReadErr::Fault) => return Err(NoScript::Fault),
+        Err(ReadErr::OutOfMemory) => return Err(NoScript::OutOfMemory),
+    };
+    match read_script(alloc, bytes.as_slice()) {
+        Ok(script) => Ok(script),
+        Err(ScriptErr::BadLine { line }) => Err(NoScript::Bad { line }),
+        Err(ScriptErr::OutOfMemory) => Err(NoScript::OutOfMemory),
+    }
 }
 
 /// Writes all of a text behind what the sink holds.

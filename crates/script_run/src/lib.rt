@@ -6,9 +6,12 @@
 
 pub mod creates;
 pub mod ends;
+pub mod no_device;
 pub mod outcome;
+pub mod pass;
 pub mod runner;
 pub mod worker;
 
+pub use no_device::plain;
 pub use outcome::Outcome;
 pub use runner::run;

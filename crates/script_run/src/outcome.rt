@@ -1,4 +1,4 @@
-//! What a run answers.
+//! What the program's commands answer.
 ghost use Rattle.std.specs.Prelude.{◌≡◌, [], None};
 
 use page_disk::{FaultAt, PageDisk};
@@ -34,6 +34,23 @@ pub struct Outcome<D: PageDisk, R: RedoDisk> {
     pub disks: Vec<D>,
     /// The log's device, its end and how far it is durable.
     pub redo: Option<RedoEnd<R>>,
+}
+
+/// How a command ended that uses no device.
+///
+/// | status | when |
+/// |---|---|
+/// | 0 | the input is a script, and its printed form was written whole |
+/// | 2 | the words are no command |
+/// | 3 | the input is no script; `line` is its first bad line, or 0 for a fault of the whole |
+/// | 4 | the input failed |
+/// | 5 | the output failed; a beginning of the printed form was written |
+/// | 7 | want of memory |
+#[derive(Clone, Copy, Debug, PartialEq, Eq)]
+pub struct Plain {
+    pub status: u8,
+    /// The bad line at status 3, else 0.
+    pub line: u32,
 }
 
 /// An answer without trails, disks and log.

@@ -1,5 +1,5 @@
 //! The top call.
-ghost use Rattle.std.specs.Prelude.{◌≡◌, ◌≢◌, ◌≤◌, ◌<◌, ◌+◌, ◌*◌, ◌++◌, ◌∷◌, ◌↔◌, ◌⊎◌, [], ℕ, List, Option, Some, None, Err, IfOk, IfErr, OnOk, IsTrue, IsSome, IsSomeAnd, IfSome, Bool, ⊤, ◌^◌, true, false, length, map, string_bytes, take};
+ghost use Rattle.std.specs.Prelude.{◌≡◌, ◌≢◌, ◌≤◌, ◌<◌, ◌+◌, ◌*◌, ◌++◌, ◌∷◌, ◌↔◌, ◌⊎◌, [], ℕ, List, Option, Some, None, Err, IfOk, IfErr, OnOk, IsTrue, IsSome, IsSomeAnd, IfSome, Bool, ⊤, ◌^◌, true, false, length, map, reverse, string_bytes, take};
 ghost use Rattle.std.specs.List.{list_any};
 ghost use Rattle.page_ids.specs.Size.{page_bytes};
 ghost use Rattle.page_ids.specs.Faults.{Rose};
@@ -7,6 +7,8 @@ ghost use Rattle.page_disk.specs.Shelves.{unasked};
 ghost use Rattle.page_disk.specs.declared.shelf.FaultAt.{FaultAt};
 ghost use Rattle.redo_mark.specs.Device.{IsAsOpened};
 ghost use Rattle.redo_mark.specs.Logs.{IsLater, IsKept};
+ghost use Rattle.trail.specs.Trails.{AreNumbered, mark};
+ghost use Rattle.trail.specs.Merging.{AllWithin, merged};
 ghost use Rattle.trail.specs.Spelling.{trail_text};
 ghost use Rattle.trail.specs.Dirt.{dirty, log_end};
 ghost use Rattle.desk.specs.Base.{Opened};
@@ -17,21 +19,22 @@ ghost use Rattle.script_text.specs.Verdict.{IsScript, IsBad};
 ghost use Rattle.script_run.specs.Ends.{IsTakenWithin};
 ghost use Rattle.script_run.specs.Work.{IsReady, IsBehindIt};
 ghost use Rattle.script_run.specs.Runs.{IsFlushFault, IsFlushedWith, IsClosed, IsEndedRun, IsEnded, IsLongLog, IsLogAsOpened, HasEnded, IsRunStatus, IsSilent, IsNoScript, AreSynced};
-ghost use Rattle.script_run.specs.Runs.{IsWritten, IsWrittenInPart, AreRun, IsAskedOnce, handed, reports, is_refused, has_refusal};
+ghost use Rattle.script_run.specs.Runs.{IsWritten, IsWrittenInPart, AreRun, IsAskedOnce, disk_as, log_as, is_refused, has_refusal};
 
 use crate::ends::{ReadErr, read_all, write_all};
 use crate::outcome::{Outcome, bare};
-use crate::worker::Worker;
+use crate::pass::Pass;
+use crate::worker::work;
 use desk::{Caller, CleanErr, Desk, clean_disk_holds_the_values, dirty_pages_are_few};
 use frame_words::PlainFrames;
 use page_disk::{FaultAt, PageDisk, Shelf, Sink, Source};
 use page_ids::OutOfMemory;
 use redo_mark::{Redo, RedoDisk, RedoEnd};
-use script_text::{Script, ScriptErr, WordsErr, command_of, read_script};
+use script_text::{Program, Script, ScriptErr, WordsErr, command_of, read_script};
 use std::alloc::Global;
 use trail::{
-    Event, Kind, Note, Trail, a_clean_history_is_durable, dirty_pages_are_apart, merge,
-    one_account_merges, text,
+    Entry, Event, Kind, Note, Receipt, Trail, a_clean_history_is_durable, dirty_pages_are_apart,
+    merge, one_account_merges, text,
 };
 
 /// The closing flush takes all dirty pages: an instance has at most so many frames.
@@ -112,6 +115,25 @@ fn close<D: PageDisk, R: RedoDisk>(
     }
 }
 
+/// The trail of a history and of the receipts of its one pass.
+fn trail_of(
+    alloc: Global,
+    first: u64,
+    history: Vec<Entry>,
+    account: Vec<Receipt>,
+) -> Result<Trail, OutOfMemory>
+    ensures first { IfOk result (λ trail. trail.first ≡ first) }
+    ensures events { IfOk result (λ trail. AreNumbered first (reverse history.items)
+        → AllWithin (mark first (reverse history.items)) (account.items ∷ [])
+        → trail.events ≡ merged first history.items (account.items ∷ [])) }
+{
+    let mut room = Vec::new(alloc);
+    room.reserve(history.len() + account.len())?;
+    let mut accounts = Vec::new(alloc);
+    accounts.push(account)?;
+    Ok(merge(first, history, accounts, room))
+}
+
 /// Runs a script on a disk and a log: thread 1's calls, then the closing flush, and the trail of both.
 fn run_on<D: PageDisk, R: RedoDisk>(
     alloc: Global,
@@ -121,11 +143,9 @@ fn run_on<D: PageDisk, R: RedoDisk>(
 ) -> Result<Ended<D, R>, OutOfMemory>
     requires size { (D.seen disk).size ≡ page_bytes script.now.config.page }
     requires script { IsWithin script.now }
-    requires limit { script.now.config.lsn + R.opened log ≤ 2 ^ 63 }
-    requires opened { IsAsOpened (R.opened log) (R.told log) }
-    ensures run { IfOk result (λ e. IsEndedRun (handed (D.seen disk).told (Some (D.seen disk).spaces) (Some (D.seen disk).faults)
-        (R.told log) (Some (R.fault_count log)))
-        D.seen (reports R.told R.opened R.fault_count)
+    requires limit { script.now.config.lsn + (R.seen log).opened ≤ 2 ^ 63 }
+    requires opened { IsAsOpened (R.seen log).opened (R.seen log).told }
+    ensures run { IfOk result (λ e. IsEndedRun (disk_as (D.seen disk)) (log_as (R.seen log)) D.seen R.seen
         script.now e.fault (e.trail ∷ []) (e.disk ∷ []) (Some e.redo)) }
     ensures fault { IfOk result (λ e. IfSome e.fault (λ f. IsFlushFault f)) }
     ensures synced { IfOk result (λ e. e.fault ≡ None → IsTrue (D.seen e.disk).synced) }
@@ -140,22 +160,24 @@ fn run_on<D: PageDisk, R: RedoDisk>(
         Err(_) => return Err(OutOfMemory),
     };
     let mut frames = desk.blank_frames(alloc)?;
-    let mut worker = Worker::new(alloc, 1);
-    worker.work(alloc, &mut desk, &mut frames, &mut redo, script.commands())?;
+    let mut pass = Pass::new(alloc, 1);
+    work(
+        &mut pass,
+        alloc,
+        &mut desk,
+        &mut frames,
+        &mut redo,
+        script.commands(),
+    )?;
     dirty_pages_are_few();
     let fault = close(&mut desk, &mut frames, &mut redo)?;
     let (disk, history) = desk.end();
     let redo = redo.close();
-    let account = worker.into_account();
-    let mut room = Vec::new(alloc);
-    room.reserve(history.len() + account.len())?;
-    let mut accounts = Vec::new(alloc);
-    accounts.push(account)?;
+    let trail = trail_of(alloc, config.first, history, pass.into_account())?;
     one_account_merges();
     dirty_pages_are_apart();
     a_clean_history_is_durable();
     clean_disk_holds_the_values::<D>();
-    let trail = merge(config.first, history, accounts, room);
     Ok(Ended {
         trail,
         disk,
@@ -237,7 +259,7 @@ fn too_long<D: PageDisk, R: RedoDisk>(alloc: Global, log: R) -> Outcome<D, R>
     ensures line { result.line ≡ 0 }
     ensures fault { result.fault ≡ None }
     ensures bare { (result.trails.items ≡ []) × (result.disks.items ≡ []) }
-    ensures redo { IsSomeAnd result.redo (λ r. (r.disk ≡ log) × (r.end ≡ R.opened log) × (r.durable ≡ R.opened log)) }
+    ensures redo { IsSomeAnd result.redo (λ r. (r.disk ≡ log) × (r.end ≡ (R.seen log).opened) × (r.durable ≡ (R.seen log).opened)) }
 {
     let end = log.end();
     let mut outcome = bare(alloc, 3, 0);
@@ -259,14 +281,11 @@ fn run_script<K: Sink, H: Shelf>(
     requires script { IsWithin script.now }
     ensures statuses { (result.status ≡ 3) ⊎ IsRunStatus result.status }
     ensures line { result.line ≡ 0 }
-    ensures opening { result.status ≡ 6 → result.fault ≡ None → Rose (H.fault_count shelf.old) (H.fault_count shelf.new) }
-    ensures ended { HasEnded result.status result.fault → IsEndedRun (handed (H.disk_told shelf.old 0) (H.disk_spaces shelf.old 0) (H.disk_faults shelf.old 0)
-        (H.log_told shelf.old) (H.log_faults shelf.old))
-        H.Disk.seen
-        (reports H.Redo.told H.Redo.opened H.Redo.fault_count)
+    ensures opening { result.status ≡ 6 → result.fault ≡ None → Rose (H.seen shelf.old).faults (H.seen shelf.new).faults }
+    ensures ended { HasEnded result.status result.fault → IsEndedRun ((H.seen shelf.old).disks 0) (H.seen shelf.old).log H.Disk.seen H.Redo.seen
         script.now result.fault result.trails.items result.disks.items result.redo }
-    ensures long { result.status ≡ 3 → IsSomeAnd result.redo (λ r. IsLogAsOpened (H.log_told shelf.old)
-        (reports H.Redo.told H.Redo.opened H.Redo.fault_count) r × (2 ^ 63 < script.now.config.lsn + r.end)) }
+    ensures long { result.status ≡ 3 → IsSomeAnd result.redo (λ r. IsLogAsOpened (H.seen shelf.old).log.told
+        H.Redo.seen r × (2 ^ 63 < script.now.config.lsn + r.end)) }
     ensures bare { (HasEnded result.status result.fault → ⊥) → (result.trails.items ≡ []) × (result.disks.items ≡ [])
         × (result.fault ≡ None) × (result.status ≢ 3 → result.redo ≡ None) }
     ensures fault { IfSome result.fault (λ f. (result.status ≡ 6) × IsFlushFault f) }
@@ -275,8 +294,8 @@ fn run_script<K: Sink, H: Shelf>(
     ensures cut { result.status ≡ 5 → Rose (K.fault_count out.old) (K.fault_count out.new)
         × IsWrittenInPart (K.held out.old) (K.held out.new) result.trails.items }
     ensures unwritten { (result.status ≡ 3) ⊎ (result.status ≡ 6) ⊎ (result.status ≡ 7) → out.new ≡ out.old }
-    ensures asked { H.asked shelf.old ≡ unasked → (log : Bool)
-        × (H.asked shelf.new ≡ record { config = Some script.now.config; disks = 1; log = log; strayed = false }) }
+    ensures asked { (H.seen shelf.old).asked ≡ unasked → (log : Bool)
+        × ((H.seen shelf.new).asked ≡ record { config = Some script.now.config; disks = 1; log = log; strayed = false }) }
     ensures synced { HasEnded result.status result.fault → result.fault ≡ None → AreSynced H.Disk.seen result.disks.items }
 {
     let config = script.config();
@@ -322,7 +341,8 @@ fn judge_words(alloc: Global, words: &[String]) -> Result<(), WordsErr>
     ensures usage { result ≡ Err WordsErr.Usage → AreRun (map string_bytes words.now) → ⊥ }
 {
     match command_of(alloc, words) {
-        Ok(_) => Ok(()),
+        Ok(Program::Run { .. }) => Ok(()),
+        Ok(Program::Check) => Err(WordsErr::Usage),
         Err(error) => Err(error),
     }
 }
@@ -347,14 +367,11 @@ pub fn run<R, S: Source, K: Sink, H: Shelf>(
     ensures unread { result.status ≡ 2 → (script.new ≡ script.old) × (shelf.new ≡ shelf.old) }
     ensures read_fault { result.status ≡ 4 → Rose (S.fault_count script.old) (S.fault_count script.new) }
     ensures bad_script { result.status ≡ 3 → (((bytes : List ℕ) → S.left script.old ≡ Some bytes → IsBad bytes result.line) × (result.redo ≡ None))
-        ⊎ IsLongLog (S.left script.old) (H.log_told shelf.old) (reports H.Redo.told H.Redo.opened H.Redo.fault_count) result.line result.redo }
+        ⊎ IsLongLog (S.left script.old) (H.seen shelf.old).log.told H.Redo.seen result.line result.redo }
     ensures bad_only { (bytes : List ℕ) (n : ℕ) → S.left script.old ≡ Some bytes → IsBad bytes n → IsNoScript result.status result.line n }
     ensures line { result.status ≢ 3 → result.line ≡ 0 }
-    ensures opening { result.status ≡ 6 → result.fault ≡ None → Rose (H.fault_count shelf.old) (H.fault_count shelf.new) }
-    ensures ended { HasEnded result.status result.fault → IsEnded (S.left script.old) (handed (H.disk_told shelf.old 0) (H.disk_spaces shelf.old 0) (H.disk_faults shelf.old 0)
-        (H.log_told shelf.old) (H.log_faults shelf.old))
-        H.Disk.seen
-        (reports H.Redo.told H.Redo.opened H.Redo.fault_count)
+    ensures opening { result.status ≡ 6 → result.fault ≡ None → Rose (H.seen shelf.old).faults (H.seen shelf.new).faults }
+    ensures ended { HasEnded result.status result.fault → IsEnded (S.left script.old) ((H.seen shelf.old).disks 0) (H.seen shelf.old).log H.Disk.seen H.Redo.seen
         result.fault result.trails.items result.disks.items result.redo }
     ensures read_whole { HasEnded result.status result.fault → (bytes : List ℕ) → S.left script.old ≡ Some bytes → S.left script.new ≡ Some [] }
     ensures bare { (HasEnded result.status result.fault → ⊥) → (result.trails.items ≡ []) × (result.disks.items ≡ [])
@@ -365,7 +382,7 @@ pub fn run<R, S: Source, K: Sink, H: Shelf>(
     ensures cut { result.status ≡ 5 → Rose (K.fault_count out.old) (K.fault_count out.new) × IsWrittenInPart (K.held out.old) (K.held out.new) result.trails.items }
     ensures unwritten { IsSilent result.status → out.new ≡ out.old }
     ensures unasked { (result.status ≡ 4) ⊎ ((result.status ≡ 3) × (result.redo ≡ None)) → shelf.new ≡ shelf.old }
-    ensures asked { H.asked shelf.old ≡ unasked → (H.asked shelf.new ≡ unasked) ⊎ IsAskedOnce (S.left script.old) (H.asked shelf.new) }
+    ensures asked { (H.seen shelf.old).asked ≡ unasked → ((H.seen shelf.new).asked ≡ unasked) ⊎ IsAskedOnce (S.left script.old) (H.seen shelf.new).asked }
     ensures taken { IsTakenWithin 0 1048577 (S.left script.old) (S.left script.new) }
     ensures synced { HasEnded result.status result.fault → result.fault ≡ None → AreSynced H.Disk.seen result.disks.items }
 {

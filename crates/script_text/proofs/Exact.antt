@@ -1,12 +1,11 @@
 -- A line is read exactly where it is the spelling of what it says.
-use Rattle.std.proofs.Common.{inl, inr, lit<, lit≤, subst, ℕ, List, [], ◌∷◌, ◌++◌, ◌≡◌, ◌^◌, ◌<◌, ◌∙◌, Bool, true, false, Option, None, Some, refl, sym, ap, arith, rules}
+use Rattle.std.proofs.Common.{inr, lit<, lit≤, subst, ℕ, List, [], ◌∷◌, ◌++◌, ◌≡◌, ◌^◌, ◌<◌, ◌∙◌, Bool, true, false, Option, None, Some, refl, sym, ap, arith, rules}
 use Rattle.std.specs.Prelude.{◌==◌, codes}
 use Rattle.std.specs.Fmt.{decimal}
 use Rattle.std.specs.Str.{bytes_eq}
 use Rattle.std.specs.List.{AllByRecursion, slice_split, join_with_byte}
 use Rattle.std.proofs.lemmas.Option.{option_and_then_some}
 use Rattle.std.proofs.lemmas.Slice.Eq.{bytes_eq-Decides}
-use Rattle.std.proofs.lemmas.List.Elements.{All-append, All-cons, All-from_recursion}
 use Rattle.std.proofs.lemmas.List.Splits.{join_with_byte-slice_split}
 use Rattle.page_ids.specs.Numerals.{number_of, cut_at}
 use Rattle.page_ids.specs.Spelling.{page_text, hex}
@@ -15,12 +14,13 @@ use Rattle.script_text.specs.Text.{command_words, item_words, setting_name, is_n
 use Rattle.script_text.specs.Reading.{page_of, hex_of, keyword_text, found, keywords, keyword_of, one, two, three, fix_of, create_of, read_of, put_of, unfix_of, clean_of, checkpoint_of, thread_of, set_of, said_by, words_say, line_says}
 use Rattle.page_ids.proofs.Cuts.{Lacks, decimal_lacks, cut_here, cut_is}
 use Rattle.page_ids.proofs.Numbers.{number_of-decimal, number_is}
-use Rattle.script_text.proofs.Hex.{hex_read, hex_is, hex_lacks}
+use Rattle.script_text.proofs.Hex.{hex_read, hex_is}
+use Rattle.script_text.proofs.Lacking.{words_lack}
 use Rattle.script_text.proofs.Cuts.{words_joined}
 use Rattle.script_text.specs.declared.script.Command.{Command}
 use Rattle.script_text.specs.declared.script.Command.TheVariants.{Fix, Create, Read, Put, Unfix, Clean, Checkpoint}
-use Rattle.script_text.specs.declared.lines.Setting.{Setting}
-use Rattle.script_text.specs.declared.lines.Setting.TheVariants.{Page, Frames, Size, Max, OldPct, OldTime, OldMin, Lsn}
+use Rattle.page_ids.specs.declared.config.Field.{Field}
+use Rattle.page_ids.specs.declared.config.Field.TheVariants.{Page, Instances, Frames, Size, Max, OldPct, OldTime, OldMin, Lsn, First}
 use Rattle.script_text.specs.declared.lines.Item.{Item}
 use Rattle.script_text.specs.declared.lines.Item.TheVariants.{Nothing, Set, Thread, Does}
 use Rattle.script_text.specs.declared.lines.Keyword.{Keyword}
@@ -29,13 +29,6 @@ use Rattle.script_text.specs.declared.lines.Keyword.TheVariants as keyword
 -- page ids
 wide : (n : ℕ) → n < 2 ^ 32 → n < 2 ^ 64
 wide n small = omega arith
-
-number_lacks : (n : ℕ) → n < 2 ^ 64 → Lacks 32 (decimal n)
-number_lacks n h = decimal_lacks 32 n (inl (lit< tt)) h
-
-page_lacks : (p : PageId) → IsPageId p → Lacks 32 (page_text p)
-page_lacks p h = All-append (λ x. (x == 32) ≡ false) (decimal p.space) (58 ∷ decimal p.page) (number_lacks p.space (wide _ h.0))
-    (All-cons (λ x. (x == 32) ≡ false) 58 (decimal p.page) refl (number_lacks p.page (wide _ h.1)))
 
 page_of-text : (p : PageId) → IsPageId p → page_of (page_text p) ≡ Some p
 page_of-text p h =
@@ -84,8 +77,9 @@ keyword_is w (m ∷ ks) k e = cases (λ d. keyword_is w ks k d) (bytes_eq w (key
         let alike : m ≡ k = cc in same ∙ ap keyword_text alike
     cases next false t = next (rw t at e)
 
-setting_found : (name : Setting) → keyword_of (setting_name name) ≡ Some (keyword.Set name)
+setting_found : (name : Field) → keyword_of (setting_name name) ≡ Some (keyword.Set name)
 setting_found Page = refl
+setting_found Instances = refl
 setting_found Frames = refl
 setting_found Size = refl
 setting_found Max = refl
@@ -93,28 +87,13 @@ setting_found OldPct = refl
 setting_found OldTime = refl
 setting_found OldMin = refl
 setting_found Lsn = refl
-
-setting_lacks : (name : Setting) → Lacks 32 (setting_name name)
-setting_lacks name = All-from_recursion (λ x. (x == 32) ≡ false) (setting_name name) (each name)
-  where
-    each : (m : Setting) → AllByRecursion (λ x. (x == 32) ≡ false) (setting_name m)
-    each Page = search rules
-    each Frames = search rules
-    each Size = search rules
-    each Max = search rules
-    each OldPct = search rules
-    each OldTime = search rules
-    each OldMin = search rules
-    each Lsn = search rules
-
-literal_lacks : (w : List ℕ) → AllByRecursion (λ x. (x == 32) ≡ false) w → Lacks 32 w
-literal_lacks w h = All-from_recursion (λ x. (x == 32) ≡ false) w h
+setting_found First = refl
 
 -- the words of what is said
 abbrev IsWords : Item → List (List ℕ) → Type 0
 IsWords i ws = (ws ≡ item_words i) × IsTypedItem i
 
-set_words : (name : Setting) (args : List (List ℕ)) (i : Item) → set_of name args ≡ Some i → IsWords i (setting_name name ∷ args)
+set_words : (name : Field) (args : List (List ℕ)) (i : Item) → set_of name args ≡ Some i → IsWords i (setting_name name ∷ args)
 set_words name args i e = one_some _ args i e (λ v shape e1. option_and_then_some _ (number_of (2 ^ 64) v) i e1 (λ n ne e2.
     let a = number_is (2 ^ 64) n v (lit≤ tt) ne in
     let same : Set name n ≡ i = cc in
@@ -214,32 +193,34 @@ read_is_spelled line i e = cases (is_nothing line) refl
             spelled (Does c) joined typed k full = (joined, typed)
 
 -- what is spelled so is read
-by_words : (line w : List ℕ) (ws : List (List ℕ)) (i : Item) → is_nothing (join_with_byte 32 (w ∷ ws)) ≡ false → Lacks 32 w → AllByRecursion (Lacks 32) ws
-    → words_say (w ∷ ws) ≡ Some i → line ≡ join_with_byte 32 (w ∷ ws) → line_says line ≡ Some i
-by_words line w ws i something lacks lack says e = let says_something : is_nothing line ≡ false = ap is_nothing e ∙ something in
-    let cut : slice_split (λ x. x == 32) line ≡ w ∷ ws = ap (slice_split (λ x. x == 32)) e ∙ words_joined w ws lacks lack in
+by_words : (i : Item) (line w : List ℕ) (ws : List (List ℕ)) → item_words i ≡ w ∷ ws → IsTypedItem i → is_nothing (join_with_byte 32 (w ∷ ws)) ≡ false
+    → words_say (w ∷ ws) ≡ Some i → line ≡ join_with_byte 32 (item_words i) → line_says line ≡ Some i
+by_words i line w ws words typed something says e =
+    let here : line ≡ join_with_byte 32 (w ∷ ws) = e ∙ ap (join_with_byte 32) words in
+    let says_something : is_nothing line ≡ false = ap is_nothing here ∙ something in
+    let lacks : AllByRecursion (Lacks 32) (w ∷ ws) = subst (λ (all : List (List ℕ)). AllByRecursion (Lacks 32) all) words (words_lack 32 (lit< tt) i typed) in
+    let cut : slice_split (λ x. x == 32) line ≡ w ∷ ws = ap (slice_split (λ x. x == 32)) here ∙ words_joined w ws lacks.0 lacks.1 in
     rw says_something (rw cut says)
 
 command_read : (c : Command) (line : List ℕ) → line ≡ join_with_byte 32 (command_words c) → IsTyped c → line_says line ≡ Some (Does c)
-command_read (Fix p now) line e h = by_words line (codes "fix") (page_text p ∷ decimal now ∷ []) (Does (Fix p now)) refl (literal_lacks (codes "fix") (search rules)) (page_lacks p h.0, (number_lacks now h.1, tt))
+command_read (Fix p now) line e h = by_words (Does (Fix p now)) line _ _ refl h refl
     (rw (page_of-text p h.0) (rw (number_of-decimal (2 ^ 64) now h.1 h.1) refl)) e
-command_read (Create p now) line e h = by_words line (codes "create") (page_text p ∷ decimal now ∷ []) (Does (Create p now)) refl (literal_lacks (codes "create") (search rules)) (page_lacks p h.0, (number_lacks now h.1, tt))
+command_read (Create p now) line e h = by_words (Does (Create p now)) line _ _ refl h refl
     (rw (page_of-text p h.0) (rw (number_of-decimal (2 ^ 64) now h.1 h.1) refl)) e
-command_read (Read p at len) line e h = by_words line (codes "read") (page_text p ∷ decimal at ∷ decimal len ∷ []) (Does (Read p at len)) refl (literal_lacks (codes "read") (search rules)) (page_lacks p h.0, (number_lacks at (wide _ h.1), (number_lacks len (wide _ h.2), tt)))
+command_read (Read p at len) line e h = by_words (Does (Read p at len)) line _ _ refl h refl
     (rw (page_of-text p h.0) (rw (number_of-decimal (2 ^ 32) at (wide _ h.1) h.1) (rw (number_of-decimal (2 ^ 32) len (wide _ h.2) h.2) refl))) e
-command_read (Put p at bytes) line e h = by_words line (codes "put") (page_text p ∷ decimal at ∷ hex bytes ∷ []) (Does (Put p at bytes)) refl (literal_lacks (codes "put") (search rules)) (page_lacks p h.0, (number_lacks at (wide _ h.1), (hex_lacks bytes h.2, tt)))
+command_read (Put p at bytes) line e h = by_words (Does (Put p at bytes)) line _ _ refl h refl
     (rw (page_of-text p h.0) (rw (number_of-decimal (2 ^ 32) at (wide _ h.1) h.1) (rw (hex_read bytes h.2) refl))) e
-command_read (Unfix p) line e h = by_words line (codes "unfix") (page_text p ∷ []) (Does (Unfix p)) refl (literal_lacks (codes "unfix") (search rules)) (page_lacks p h, tt)
-    (rw (page_of-text p h) refl) e
-command_read (Clean bound) line e h = by_words line (codes "clean") (decimal bound ∷ []) (Does (Clean bound)) refl (literal_lacks (codes "clean") (search rules)) (number_lacks bound (wide _ h), tt)
-    (rw (number_of-decimal (2 ^ 32) bound (wide _ h) h) refl) e
-command_read Checkpoint line e h = by_words line (codes "checkpoint") [] (Does Checkpoint) refl (literal_lacks (codes "checkpoint") (search rules)) tt refl e
+command_read (Unfix p) line e h = by_words (Does (Unfix p)) line _ _ refl h refl (rw (page_of-text p h) refl) e
+command_read (Clean bound) line e h = by_words (Does (Clean bound)) line _ _ refl h refl (rw (number_of-decimal (2 ^ 32) bound (wide _ h) h) refl) e
+command_read Checkpoint line e h = by_words (Does Checkpoint) line _ _ refl h refl refl e
 
-set_says : (name : Setting) (n : ℕ) → n < 2 ^ 64 → words_say (setting_name name ∷ decimal n ∷ []) ≡ Some (Set name n)
+set_says : (name : Field) (n : ℕ) → n < 2 ^ 64 → words_say (setting_name name ∷ decimal n ∷ []) ≡ Some (Set name n)
 set_says name n h = rw (setting_found name) (rw (number_of-decimal (2 ^ 64) n h h) refl)
 
-set_something : (name : Setting) (w : List ℕ) → is_nothing (join_with_byte 32 (setting_name name ∷ w ∷ [])) ≡ false
+set_something : (name : Field) (w : List ℕ) → is_nothing (join_with_byte 32 (setting_name name ∷ w ∷ [])) ≡ false
 set_something Page w = refl
+set_something Instances w = refl
 set_something Frames w = refl
 set_something Size w = refl
 set_something Max w = refl
@@ -247,9 +228,10 @@ set_something OldPct w = refl
 set_something OldTime w = refl
 set_something OldMin w = refl
 set_something Lsn w = refl
+set_something First w = refl
 
 pub spelled_is_read : (line : List ℕ) (i : Item) → IsSpelled i line → line_says line ≡ Some i
 spelled_is_read line Nothing h = let nothing : is_nothing line ≡ true = h in rw nothing refl
-spelled_is_read line (Set name n) h = by_words line (setting_name name) (decimal n ∷ []) (Set name n) (set_something name (decimal n)) (setting_lacks name) (number_lacks n h.1, tt) (set_says name n h.1) h.0
-spelled_is_read line (Thread k) h = by_words line (codes "thread") (decimal k ∷ []) (Thread k) refl (literal_lacks (codes "thread") (search rules)) (number_lacks k h.1, tt) (rw (number_of-decimal (2 ^ 64) k h.1 h.1) refl) h.0
+spelled_is_read line (Set name n) h = by_words (Set name n) line _ _ refl h.1 (set_something name (decimal n)) (set_says name n h.1) h.0
+spelled_is_read line (Thread k) h = by_words (Thread k) line _ _ refl h.1 refl (rw (number_of-decimal (2 ^ 64) k h.1 h.1) refl) h.0
 spelled_is_read line (Does c) h = command_read c line h.0 h.1

@@ -1,17 +1,13 @@
 -- The word of bytes is two digits for each, both ways.
 use Rattle.std.proofs.Common.{ℕ, List, [], ◌∷◌, ◌++◌, ◌≡◌, ◌+◌, ◌-◌, ◌*◌, ◌/◌, ◌%◌, ◌<◌, ◌≤◌, ◌∙◌, ◌&&◌, Bool, true, false, Option, None, Some, nat_le, length, get_or, take, drop, refl, sym, ap, subst, arith}
-use Rattle.std.specs.Prelude.{◌==◌}
 use Rattle.std.specs.Fmt.{digit_glyph}
-use Rattle.std.specs.List.{AllByRecursion}
 use Rattle.std.specs.Option.{option_and_then}
 use Rattle.std.proofs.lemmas.Bool.Decides.{nat_tests}
 use Rattle.std.proofs.lemmas.List.{append_assoc, take_all}
-use Rattle.std.proofs.lemmas.List.Elements.{All-from_recursion}
 use Rattle.std.proofs.lemmas.Option.{option_and_then_some}
 use Rattle.page_ids.specs.Spelling.{hex}
 use Rattle.script_text.specs.Text.{AreBytes}
 use Rattle.script_text.specs.Reading.{hex_digit, byte_of, hex_of}
-use Rattle.page_ids.proofs.Cuts.{Lacks}
 
 glyph_read : (d : ℕ) → d < 16 → hex_digit (digit_glyph false d) ≡ Some d
 glyph_read d small = grind (arith, nat_tests)
@@ -58,16 +54,6 @@ hex_is (a ∷ b ∷ cs) bytes e = more (λ r re. hex_is cs r re)
         let same : k ∷ r ≡ bytes = cc in
         let word : a ∷ b ∷ cs ≡ hex (k ∷ r) = simp (here.0, here.1, rest.0) in
         subst (λ (q : List ℕ). (a ∷ b ∷ cs ≡ hex q) × AreBytes q) same (word, (here.2, rest.1))))
-
-pub hex_lacks : (bytes : List ℕ) → AreBytes bytes → Lacks 32 (hex bytes)
-hex_lacks bytes h = All-from_recursion (λ x. (x == 32) ≡ false) (hex bytes) (each bytes h)
-  where
-    glyph : (d : ℕ) → d < 16 → (digit_glyph false d == 32) ≡ false
-    glyph d small = grind (arith, nat_tests)
-
-    each : (bs : List ℕ) → AreBytes bs → AllByRecursion (λ x. (x == 32) ≡ false) (hex bs)
-    each [] h = tt
-    each (b ∷ bs) h = (glyph (b / 16) (omega (arith, h.0)), (glyph (b % 16) (omega arith), each bs h.1))
 
 -- what is read so far, followed by what the rest of the word writes
 abbrev pub After : List ℕ → List ℕ → Option (List ℕ)

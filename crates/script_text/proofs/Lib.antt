@@ -1,8 +1,11 @@
 pub mod Cuts
 pub mod Hex
+pub mod Lacking
 pub mod Exact
 pub mod Taking
 pub mod Unique
 pub mod Kept
 pub mod Threads
+pub mod Commands
 pub mod Called
+pub mod Printing

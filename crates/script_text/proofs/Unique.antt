@@ -5,6 +5,7 @@ use Rattle.script_text.specs.declared.lines.Item.{Item}
 use Rattle.script_text.specs.declared.reader.ScriptErr.{ScriptErr}
 use Rattle.script_text.specs.declared.reader.ScriptErr.TheVariants.{BadLine, OutOfMemory}
 use Rattle.script_text.specs.Plan.{Plan}
+use Rattle.script_text.specs.declared.script.TheConstants.{SCRIPT_BYTES}
 use Rattle.script_text.specs.Reading.{line_says}
 use Rattle.script_text.specs.Grammar.{SoFar, step, Line, IsRefused, AreRead, lines_of, nothing_said}
 use Rattle.script_text.specs.Faults.{is_faulty}
@@ -60,14 +61,14 @@ script_one bytes p q a b = a.asked ∙ ap plan_of (read_one nothing_said a.last 
 
 -- and is not bad
 script_not_bad : (bytes : List ℕ) (p : Plan) (n : ℕ) → IsScript bytes p → IsBad bytes n → ⊥
-script_not_bad bytes p n a (inl (zero, inl long)) = let short : length bytes ≤ 1048576 = a.short in omega (arith, short, long)
+script_not_bad bytes p n a (inl (zero, inl long)) = let short : length bytes ≤ SCRIPT_BYTES = a.short in omega (arith, short, long)
 script_not_bad bytes p n a (inl (zero, inr f)) =
     let same : a.last ≡ f.last = read_one nothing_said a.last f.last (lines_of bytes) a.read f.read in
     let both : false ≡ true = sym a.sound ∙ ap (λ s. is_faulty (plan_of s)) same ∙ f.faulty in absurd (cc)
 script_not_bad bytes p n a (inr (short, line)) = bad_line_ends (lines_of bytes) n a.last line a.read
 
 -- a fault of the whole and a bad line exclude each other
-whole_or_line : (bytes : List ℕ) (n : ℕ) → (1048576 < length bytes) ⊎ IsFaulty bytes → length bytes ≤ 1048576 → IsBadLine (lines_of bytes) n → ⊥
+whole_or_line : (bytes : List ℕ) (n : ℕ) → (SCRIPT_BYTES < length bytes) ⊎ IsFaulty bytes → length bytes ≤ SCRIPT_BYTES → IsBadLine (lines_of bytes) n → ⊥
 whole_or_line bytes n (inl long) short line = omega (arith, short, long)
 whole_or_line bytes n (inr f) short line = bad_line_ends (lines_of bytes) n f.last line f.read
 

@@ -1,30 +1,19 @@
 -- The faults of a whole script, each of whose lines is in the grammar.
-use Rattle.std.specs.Prelude.{Bool, ◌*◌, ◌^◌, ◌||◌, nat_lt}
+use Rattle.std.specs.Prelude.{Bool, true, false, ◌||◌, nat_lt, Option, None, Some}
 use Rattle.page_ids.specs.Chunks.{chunks_of}
-use Rattle.page_ids.specs.Size.{page_bytes}
+use Rattle.page_ids.specs.Fields.{unfit_of}
 use Rattle.page_ids.specs.declared.config.Config.{Config}
+use Rattle.page_ids.specs.declared.config.BadConfig.{BadConfig}
 use Rattle.script_text.specs.Plan.{Plan}
 
--- an instance could have more frames than its table has places for
-abbrev pub has_too_many_frames : Config → Bool
-has_too_many_frames c = nat_lt 16384 (c.frames * c.max)
+abbrev pub is_bad : Option BadConfig → Bool
+is_bad None = false
+is_bad (Some bad) = true
 
--- all frames that there could be have more bytes than a pool may have
-abbrev pub has_too_many_bytes : Config → Bool
-has_too_many_bytes c = nat_lt (2 ^ 31) (page_bytes c.page * c.frames * c.max * c.instances)
+-- what can't be run yet: several instances, a history that begins behind another place than 0, several chunks at the start
+abbrev pub is_unbuilt : Config → Bool
+is_unbuilt c = nat_lt 1 c.instances || nat_lt 0 c.first || nat_lt 1 (chunks_of c)
 
--- there are more chunks at the start than there may ever be
-abbrev pub has_too_many_chunks : Config → Bool
-has_too_many_chunks c = nat_lt c.max (chunks_of c)
-
--- more chunks than one at the start, which can't be run yet
-abbrev pub has_several_chunks : Config → Bool
-has_several_chunks c = nat_lt 1 (chunks_of c)
-
--- the whole has a fault
+-- no pool can be made with the numbers, or none that can be run yet
 abbrev pub is_faulty : Plan → Bool
-is_faulty plan =
-    has_too_many_frames plan.config
-    || has_too_many_bytes plan.config
-    || has_too_many_chunks plan.config
-    || has_several_chunks plan.config
+is_faulty plan = is_bad (unfit_of plan.config) || is_unbuilt plan.config

@@ -1,15 +1,17 @@
 -- What the lines of a script make, one after the other: ranges, order and limits.
-use Rattle.std.specs.Prelude.{ℕ, Bool, true, false, List, [], ◌∷◌, ◌++◌, ◌≡◌, ◌==◌, ◌+◌, ◌-◌, ◌^◌, ◌&&◌, nat_le, nat_lt, not, Option, None, Some, if◌then◌else◌, length, slice_index_or, slice_set}
+use Rattle.std.specs.Prelude.{ℕ, Bool, true, false, List, [], ◌∷◌, ◌++◌, ◌≡◌, ◌==◌, ◌+◌, ◌-◌, ◌&&◌, nat_le, nat_lt, not, Option, None, Some, if◌then◌else◌, length, slice_index_or, slice_set, replicate}
 use Rattle.std.specs.List.{slice_split, sum_by}
-use Rattle.page_ids.specs.Size.{page_bytes, is_page_size}
+use Rattle.page_ids.specs.Size.{page_bytes}
+use Rattle.page_ids.specs.Fields.{is_within, is_settable}
 use Rattle.page_ids.specs.declared.config.Config.{Config}
 use Rattle.page_ids.specs.declared.ids.PageSize.{PageSize}
 use Rattle.page_ids.specs.declared.ids.PageSize.TheVariants.{Kib4, Kib8, Kib16}
 use Rattle.script_text.specs.Text.{IsSpelled}
+use Rattle.script_text.specs.declared.script.TheConstants.{MOST_CALLS, THREADS}
 use Rattle.script_text.specs.declared.script.Command.{Command}
 use Rattle.script_text.specs.declared.script.Command.TheVariants.{Fix, Create, Read, Put, Unfix, Clean, Checkpoint}
-use Rattle.script_text.specs.declared.lines.Setting.{Setting}
-use Rattle.script_text.specs.declared.lines.Setting.TheVariants.{Page, Frames, Size, Max, OldPct, OldTime, OldMin, Lsn}
+use Rattle.page_ids.specs.declared.config.Field.{Field}
+use Rattle.page_ids.specs.declared.config.Field.TheVariants.{Page, Instances, Frames, Size, Max, OldPct, OldTime, OldMin, Lsn, First}
 use Rattle.script_text.specs.declared.lines.Item.{Item}
 use Rattle.script_text.specs.declared.lines.Item.TheVariants.{Nothing, Set, Thread, Does}
 
@@ -36,42 +38,31 @@ usual = record {
 }
 
 abbrev pub nothing_said : SoFar
-nothing_said = record { config = usual; settings = false ∷ false ∷ false ∷ false ∷ false ∷ false ∷ false ∷ false ∷ []; threads = []; calls = 0 }
+nothing_said = record { config = usual; settings = replicate 10 false; threads = []; calls = 0 }
 
 -- the setting's place among those that a script may set
-abbrev pub place_of : Setting → ℕ
+abbrev pub place_of : Field → ℕ
 place_of Page = 0
-place_of Frames = 1
-place_of Size = 2
-place_of Max = 3
-place_of OldPct = 4
-place_of OldTime = 5
-place_of OldMin = 6
-place_of Lsn = 7
+place_of Instances = 1
+place_of Frames = 2
+place_of Size = 3
+place_of Max = 4
+place_of OldPct = 5
+place_of OldTime = 6
+place_of OldMin = 7
+place_of Lsn = 8
+place_of First = 9
 
-abbrev pub was_set : SoFar → Setting → Bool
+abbrev pub was_set : SoFar → Field → Bool
 was_set s name = slice_index_or s.settings (place_of name) false
-
-abbrev pub is_within : ℕ → ℕ → ℕ → Bool
-is_within low high n = nat_le low n && nat_le n high
-
--- the ranges of the settings
-abbrev pub is_settable : Setting → ℕ → Bool
-is_settable Page n = is_page_size n
-is_settable Frames n = is_within 1 8192 n
-is_settable Size n = is_within 1 (2 ^ 31) n
-is_settable Max n = is_within 1 16 n
-is_settable OldPct n = is_within 5 95 n
-is_settable OldTime n = is_within 0 (2 ^ 32 - 1) n
-is_settable OldMin n = is_within 1 16384 n
-is_settable Lsn n = is_within 1 (2 ^ 63 - 1) n
 
 -- the size of so many bytes
 abbrev pub size_of : ℕ → PageSize
 size_of n = if n == 4096 then Kib4 else if n == 8192 then Kib8 else Kib16
 
-abbrev pub with_setting : Config → Setting → ℕ → Config
+abbrev pub with_setting : Config → Field → ℕ → Config
 with_setting c Page n = record c { page = size_of n }
+with_setting c Instances n = record c { instances = n }
 with_setting c Frames n = record c { frames = n }
 with_setting c Size n = record c { size = n }
 with_setting c Max n = record c { max = n }
@@ -79,6 +70,7 @@ with_setting c OldPct n = record c { old_pct = n }
 with_setting c OldTime n = record c { old_time = n }
 with_setting c OldMin n = record c { old_min = n }
 with_setting c Lsn n = record c { lsn = n }
+with_setting c First n = record c { first = n }
 
 -- so many bytes from there on are few, and lie between the header and the trailer of a page of this size
 abbrev pub is_in_body : PageSize → ℕ → ℕ → Bool
@@ -94,26 +86,30 @@ is_in_range size (Unfix p) = true
 is_in_range size (Clean bound) = is_within 0 16384 bound
 is_in_range size Checkpoint = true
 
--- how many calls a command makes, of the one instance that there is
-abbrev pub calls_of : Command → ℕ
-calls_of (Fix p now) = 1
-calls_of (Create p now) = 1
-calls_of (Read p at len) = 1
-calls_of (Put p at bytes) = 1
-calls_of (Unfix p) = 1
-calls_of (Clean bound) = 1
-calls_of Checkpoint = 1
+-- how many calls a command makes of so many instances
+abbrev pub calls_of : ℕ → Command → ℕ
+calls_of instances (Fix p now) = 1
+calls_of instances (Create p now) = 1
+calls_of instances (Read p at len) = 1
+calls_of instances (Put p at bytes) = 1
+calls_of instances (Unfix p) = 1
+calls_of instances (Clean bound) = instances
+calls_of instances Checkpoint = instances
 
 -- how many calls all of them make
-abbrev pub calls_in : List Command → ℕ
-calls_in commands = sum_by calls_of commands
+abbrev pub calls_in : ℕ → List Command → ℕ
+calls_in instances commands = sum_by (calls_of instances) commands
+
+-- and those of all threads
+abbrev pub all_calls : ℕ → List (List Command) → ℕ
+all_calls instances threads = sum_by (calls_in instances) threads
 
 -- the command stands at the end of the last thread
 abbrev pub with_command : List (List Command) → Command → List (List Command)
 with_command threads c = slice_set threads (length threads - 1) (slice_index_or threads (length threads - 1) [] ++ c ∷ [])
 
--- What an item makes of what was said, where it may stand there: settings come first, each at most once; then `thread 1`; then its
--- commands, with at most 65536 calls.
+-- What an item makes of what was said, where it may stand there: settings come first, each at most once; then the threads in order,
+-- each with its commands behind it, which make few calls.
 abbrev pub step : SoFar → Item → Option SoFar
 step s Nothing = Some s
 step s (Set name n) =
@@ -121,12 +117,12 @@ step s (Set name n) =
     then Some (record s { config = with_setting s.config name n; settings = slice_set s.settings (place_of name) true })
     else None
 step s (Thread k) =
-    if (k == length s.threads + 1) && nat_le k 1
+    if (k == length s.threads + 1) && nat_le k THREADS
     then Some (record s { threads = s.threads ++ [] ∷ [] })
     else None
 step s (Does c) =
-    if nat_lt 0 (length s.threads) && is_in_range s.config.page c && nat_le (s.calls + calls_of c) 65536
-    then Some (record s { threads = with_command s.threads c; calls = s.calls + calls_of c })
+    if nat_lt 0 (length s.threads) && is_in_range s.config.page c && nat_le (s.calls + calls_of s.config.instances c) MOST_CALLS
+    then Some (record s { threads = with_command s.threads c; calls = s.calls + calls_of s.config.instances c })
     else None
 
 -- what a line makes of it

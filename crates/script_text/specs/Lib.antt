@@ -4,6 +4,8 @@ pub mod Grammar
 pub mod Faults
 pub mod Verdict
 pub mod Within
+pub mod Printed
 pub mod Reading
 pub mod Left
 pub mod CommandLine
+pub mod Commands

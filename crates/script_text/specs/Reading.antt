@@ -7,8 +7,8 @@ use Rattle.page_ids.specs.Numerals.{number_of, cut_at}
 use Rattle.page_ids.specs.declared.ids.PageId.{PageId}
 use Rattle.script_text.specs.Text.{is_nothing, setting_name}
 use Rattle.script_text.specs.declared.script.Command.TheVariants.{Fix, Create, Read, Put, Unfix, Clean, Checkpoint}
-use Rattle.script_text.specs.declared.lines.Setting.{Setting}
-use Rattle.script_text.specs.declared.lines.Setting.TheVariants.{Page, Frames, Size, Max, OldPct, OldTime, OldMin, Lsn}
+use Rattle.page_ids.specs.declared.config.Field.{Field}
+use Rattle.page_ids.specs.declared.config.Field.TheVariants.{Page, Instances, Frames, Size, Max, OldPct, OldTime, OldMin, Lsn, First}
 use Rattle.script_text.specs.declared.lines.Item.{Item}
 use Rattle.script_text.specs.declared.lines.Item.TheVariants.{Nothing, Set, Thread, Does}
 use Rattle.script_text.specs.declared.lines.Keyword.{Keyword}
@@ -52,8 +52,8 @@ found w (k ∷ ks) = if bytes_eq w (keyword_text k) then Some k else found w ks
 
 abbrev pub keywords : List Keyword
 keywords =
-    keyword.Set Page ∷ keyword.Set Frames ∷ keyword.Set Size ∷ keyword.Set Max
-    ∷ keyword.Set OldPct ∷ keyword.Set OldTime ∷ keyword.Set OldMin ∷ keyword.Set Lsn
+    keyword.Set Page ∷ keyword.Set Instances ∷ keyword.Set Frames ∷ keyword.Set Size ∷ keyword.Set Max
+    ∷ keyword.Set OldPct ∷ keyword.Set OldTime ∷ keyword.Set OldMin ∷ keyword.Set Lsn ∷ keyword.Set First
     ∷ keyword.Thread ∷ keyword.Fix ∷ keyword.Create ∷ keyword.Read ∷ keyword.Put ∷ keyword.Unfix
     ∷ keyword.Clean ∷ keyword.Checkpoint ∷ []
 
@@ -74,7 +74,7 @@ three f (a ∷ b ∷ c ∷ []) = f a b c
 three f _ = None
 
 -- the words behind the keyword, one kind of line each
-abbrev pub set_of : Setting → List (List ℕ) → Option Item
+abbrev pub set_of : Field → List (List ℕ) → Option Item
 set_of name = one (λ v. number_of (2 ^ 64) v >>= λ n. Some (Set name n))
 
 abbrev pub thread_of : List (List ℕ) → Option Item

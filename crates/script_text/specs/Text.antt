@@ -6,13 +6,14 @@ use Rattle.page_ids.specs.Spelling.{page_text, hex}
 use Rattle.page_ids.specs.declared.ids.PageId.{PageId}
 use Rattle.script_text.specs.declared.script.Command.{Command}
 use Rattle.script_text.specs.declared.script.Command.TheVariants.{Fix, Create, Read, Put, Unfix, Clean, Checkpoint}
-use Rattle.script_text.specs.declared.lines.Setting.{Setting}
-use Rattle.script_text.specs.declared.lines.Setting.TheVariants.{Page, Frames, Size, Max, OldPct, OldTime, OldMin, Lsn}
+use Rattle.page_ids.specs.declared.config.Field.{Field}
+use Rattle.page_ids.specs.declared.config.Field.TheVariants.{Page, Instances, Frames, Size, Max, OldPct, OldTime, OldMin, Lsn, First}
 use Rattle.script_text.specs.declared.lines.Item.{Item}
 use Rattle.script_text.specs.declared.lines.Item.TheVariants.{Nothing, Set, Thread, Does}
 
-abbrev pub setting_name : Setting → List ℕ
+abbrev pub setting_name : Field → List ℕ
 setting_name Page = codes "page"
+setting_name Instances = codes "instances"
 setting_name Frames = codes "frames"
 setting_name Size = codes "size"
 setting_name Max = codes "max"
@@ -20,6 +21,7 @@ setting_name OldPct = codes "old_pct"
 setting_name OldTime = codes "old_time"
 setting_name OldMin = codes "old_min"
 setting_name Lsn = codes "lsn"
+setting_name First = codes "first"
 
 abbrev pub command_words : Command → List (List ℕ)
 command_words (Fix p now) = codes "fix" ∷ page_text p ∷ decimal now ∷ []

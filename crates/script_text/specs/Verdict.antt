@@ -1,6 +1,7 @@
 -- Which bytes are a script, and which line it is that isn't in the grammar.
 use Rattle.std.specs.Prelude.{ℕ, true, false, List, ◌∷◌, ◌++◌, ◌≡◌, ◌+◌, ◌<◌, ◌≤◌, ◌⊎◌, length}
 use Rattle.script_text.specs.Plan.{Plan}
+use Rattle.script_text.specs.declared.script.TheConstants.{SCRIPT_BYTES}
 use Rattle.script_text.specs.Grammar.{SoFar, nothing_said, IsRefused, AreRead, lines_of}
 use Rattle.script_text.specs.Faults.{is_faulty}
 
@@ -10,7 +11,7 @@ plan_of s = record { config = s.config; threads = s.threads }
 -- the bytes are a script that asks for this
 pub record IsScript (bytes : List ℕ) (plan : Plan) : Type 0 where
   pub last : SoFar
-  pub short : length bytes ≤ 1048576
+  pub short : length bytes ≤ SCRIPT_BYTES
   pub read : AreRead nothing_said (lines_of bytes) last
   pub sound : is_faulty (plan_of last) ≡ false
   pub asked : plan ≡ plan_of last
@@ -18,7 +19,7 @@ pub record IsScript (bytes : List ℕ) (plan : Plan) : Type 0 where
 -- all lines are in the grammar, and the whole has a fault
 pub record IsFaulty (bytes : List ℕ) : Type 0 where
   pub last : SoFar
-  pub short : length bytes ≤ 1048576
+  pub short : length bytes ≤ SCRIPT_BYTES
   pub read : AreRead nothing_said (lines_of bytes) last
   pub faulty : is_faulty (plan_of last) ≡ true
 
@@ -36,5 +37,5 @@ pub record IsBadLine (lines : List (List ℕ)) (n : ℕ) : Type 0 where
 -- the bytes are no script: line 0 for a script that is too long or whose whole has a fault
 abbrev pub IsBad : List ℕ → ℕ → Type 0
 IsBad bytes n =
-    ((n ≡ 0) × ((1048576 < length bytes) ⊎ IsFaulty bytes))
-    ⊎ ((length bytes ≤ 1048576) × IsBadLine (lines_of bytes) n)
+    ((n ≡ 0) × ((SCRIPT_BYTES < length bytes) ⊎ IsFaulty bytes))
+    ⊎ ((length bytes ≤ SCRIPT_BYTES) × IsBadLine (lines_of bytes) n)

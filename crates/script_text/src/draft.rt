@@ -1,12 +1,13 @@
 //! What the lines of a script said so far.
 ghost use Rattle.std.specs.Prelude.{◌≡◌, ◌<◌, map, vec_len, IfOk, OnOk, Some, None, true, if◌then◌else◌};
 ghost use Rattle.page_ids.specs.Size.{is_page_size};
-ghost use Rattle.script_text.specs.Grammar.{place_of, is_settable, size_of, with_setting, is_in_body, is_in_range, calls_of, with_command, step, usual, nothing_said};
+ghost use Rattle.page_ids.specs.Fields.{is_settable};
+ghost use Rattle.script_text.specs.Grammar.{place_of, size_of, with_setting, is_in_body, is_in_range, calls_of, with_command, step, usual, nothing_said};
 ghost use Rattle.script_text.specs.Verdict.{plan_of};
 
-use crate::lines::{Item, Setting};
-use crate::script::{Command, Script};
-use page_ids::{Config, PageSize};
+use crate::lines::Item;
+use crate::script::{Command, MOST_CALLS, Script, THREADS};
+use page_ids::{Config, Field, PageSize};
 use std::alloc::{AllocError, Global};
 use std::marker::Model;
 
@@ -14,7 +15,7 @@ use std::marker::Model;
 #[derive(Debug, Drop)]
 pub struct Draft {
     config: Config,
-    settings: [bool; 8],
+    settings: [bool; 10],
     threads: Vec<Vec<Command>>,
     calls: u32,
 }
@@ -46,34 +47,21 @@ fn usual() -> Config
     }
 }
 
-fn place(setting: Setting) -> usize
+fn place(setting: Field) -> usize
     ensures place { result ≡ place_of setting }
-    ensures few { result < 8 }
+    ensures few { result < 10 }
 {
     match setting {
-        Setting::Page => 0,
-        Setting::Frames => 1,
-        Setting::Size => 2,
-        Setting::Max => 3,
-        Setting::OldPct => 4,
-        Setting::OldTime => 5,
-        Setting::OldMin => 6,
-        Setting::Lsn => 7,
-    }
-}
-
-fn is_settable(setting: Setting, n: u64) -> bool
-    ensures { result ≡ is_settable setting n }
-{
-    match setting {
-        Setting::Page => n == 4096 || n == 8192 || n == 16384,
-        Setting::Frames => 1 <= n && n <= 8192,
-        Setting::Size => 1 <= n && n <= 2147483648,
-        Setting::Max => 1 <= n && n <= 16,
-        Setting::OldPct => 5 <= n && n <= 95,
-        Setting::OldTime => n <= 0xffff_ffff,
-        Setting::OldMin => 1 <= n && n <= 16384,
-        Setting::Lsn => 1 <= n && n <= 0x7fff_ffff_ffff_ffff,
+        Field::Page => 0,
+        Field::Instances => 1,
+        Field::Frames => 2,
+        Field::Size => 3,
+        Field::Max => 4,
+        Field::OldPct => 5,
+        Field::OldTime => 6,
+        Field::OldMin => 7,
+        Field::Lsn => 8,
+        Field::First => 9,
     }
 }
 
@@ -87,37 +75,42 @@ fn page_size(bytes: u64) -> PageSize
     }
 }
 
-fn with_setting(config: Config, setting: Setting, n: u64) -> Config
+fn with_setting(config: Config, setting: Field, n: u64) -> Config
     requires range { is_settable setting n ≡ true }
     ensures { result ≡ with_setting config setting n }
 {
     match setting {
-        Setting::Page => Config {
+        Field::Page => Config {
             page: page_size(n),
             ..config
         },
-        Setting::Frames => Config {
+        Field::Instances => Config {
+            instances: n as u16,
+            ..config
+        },
+        Field::Frames => Config {
             frames: n as u32,
             ..config
         },
-        Setting::Size => Config { size: n, ..config },
-        Setting::Max => Config {
+        Field::Size => Config { size: n, ..config },
+        Field::Max => Config {
             max: n as u32,
             ..config
         },
-        Setting::OldPct => Config {
+        Field::OldPct => Config {
             old_pct: n as u32,
             ..config
         },
-        Setting::OldTime => Config {
+        Field::OldTime => Config {
             old_time: n,
             ..config
         },
-        Setting::OldMin => Config {
+        Field::OldMin => Config {
             old_min: n as u32,
             ..config
         },
-        Setting::Lsn => Config { lsn: n, ..config },
+        Field::Lsn => Config { lsn: n, ..config },
+        Field::First => Config { first: n, ..config },
     }
 }
 
@@ -146,9 +139,9 @@ fn is_in_range(size: PageSize, command: &Command) -> bool
     }
 }
 
-/// How many calls the command makes.
-fn calls_of(command: &Command) -> u32
-    ensures { result ≡ calls_of command.now }
+/// How many calls the command makes of so many instances.
+fn calls_of(instances: u16, command: &Command) -> u32
+    ensures { result ≡ calls_of instances command.now }
 {
     match command {
         Command::Fix { .. } => 1,
@@ -156,8 +149,8 @@ fn calls_of(command: &Command) -> u32
         Command::Read { .. } => 1,
         Command::Put { .. } => 1,
         Command::Unfix { .. } => 1,
-        Command::Clean { .. } => 1,
-        Command::Checkpoint => 1,
+        Command::Clean { .. } => u32::from(instances),
+        Command::Checkpoint => u32::from(instances),
     }
 }
 
@@ -180,17 +173,17 @@ impl Draft {
     {
         Draft {
             config: usual(),
-            settings: [false; 8],
+            settings: [false; 10],
             threads: Vec::new(alloc),
             calls: 0,
         }
     }
 
-    fn set(&mut self, setting: Setting, n: u64) -> bool
+    fn set(&mut self, setting: Field, n: u64) -> bool
         ensures { step self.old (Item.Set setting n) ≡ (if result then Some self.new else None) }
     {
         let at = place(setting);
-        if !self.threads.is_empty() || !is_settable(setting, n) || self.settings[at] {
+        if !self.threads.is_empty() || !setting.is_settable(n) || self.settings[at] {
             return false;
         }
         self.config = with_setting(self.config, setting, n);
@@ -202,7 +195,7 @@ impl Draft {
         ensures { IfOk result (λ good.
             step self.old (Item.Thread number) ≡ (if good then Some self.new else None)) }
     {
-        if number != self.threads.len() as u64 + 1 || number > 1 {
+        if number != self.threads.len() as u64 + 1 || number > THREADS {
             return Ok(false);
         }
         let alloc = *self.threads.allocator();
@@ -214,8 +207,12 @@ impl Draft {
         ensures { IfOk result (λ good.
             step self.old (Item.Does command) ≡ (if good then Some self.new else None)) }
     {
-        let calls = u64::from(self.calls) + u64::from(calls_of(&command));
-        if self.threads.is_empty() || !is_in_range(self.config.page, &command) || calls > 65536 {
+        let more = calls_of(self.config.instances, &command);
+        let calls = u64::from(self.calls) + u64::from(more);
+        if self.threads.is_empty()
+            || !is_in_range(self.config.page, &command)
+            || calls > MOST_CALLS
+        {
             return Ok(false);
         }
         push_command(&mut self.threads, command)?;

@@ -6,28 +6,16 @@ ghost use Rattle.script_text.specs.Reading.{keyword_of, set_of, thread_of, fix_o
 
 use crate::script::Command;
 use crate::words::{bytes, page};
+use page_ids::Field;
 use page_ids::numerals::{number, number_u32};
 use std::alloc::{AllocError, Global};
-
-/// A number of the pool that a script may set.
-#[derive(Clone, Copy, Debug, PartialEq, Eq)]
-pub enum Setting {
-    Page,
-    Frames,
-    Size,
-    Max,
-    OldPct,
-    OldTime,
-    OldMin,
-    Lsn,
-}
 
 /// What a line says.
 #[derive(Debug, Drop)]
 pub enum Item {
     /// An empty line or a comment says nothing.
     Nothing,
-    Set { setting: Setting, value: u64 },
+    Set { setting: Field, value: u64 },
     Thread { number: u64 },
     Does { command: Command },
 }
@@ -35,7 +23,7 @@ pub enum Item {
 /// The first word of a line.
 #[derive(Clone, Copy, Debug)]
 pub enum Keyword {
-    Set(Setting),
+    Set(Field),
     Thread,
     Fix,
     Create,
@@ -51,21 +39,25 @@ fn keyword_of(word: &[u8]) -> Option<Keyword>
     ensures { result ≡ keyword_of word.now }
 {
     if word == b"page".as_slice() {
-        Some(Keyword::Set(Setting::Page))
+        Some(Keyword::Set(Field::Page))
+    } else if word == b"instances".as_slice() {
+        Some(Keyword::Set(Field::Instances))
     } else if word == b"frames".as_slice() {
-        Some(Keyword::Set(Setting::Frames))
+        Some(Keyword::Set(Field::Frames))
     } else if word == b"size".as_slice() {
-        Some(Keyword::Set(Setting::Size))
+        Some(Keyword::Set(Field::Size))
     } else if word == b"max".as_slice() {
-        Some(Keyword::Set(Setting::Max))
+        Some(Keyword::Set(Field::Max))
     } else if word == b"old_pct".as_slice() {
-        Some(Keyword::Set(Setting::OldPct))
+        Some(Keyword::Set(Field::OldPct))
     } else if word == b"old_time".as_slice() {
-        Some(Keyword::Set(Setting::OldTime))
+        Some(Keyword::Set(Field::OldTime))
     } else if word == b"old_min".as_slice() {
-        Some(Keyword::Set(Setting::OldMin))
+        Some(Keyword::Set(Field::OldMin))
     } else if word == b"lsn".as_slice() {
-        Some(Keyword::Set(Setting::Lsn))
+        Some(Keyword::Set(Field::Lsn))
+    } else if word == b"first".as_slice() {
+        Some(Keyword::Set(Field::First))
     } else if word == b"thread".as_slice() {
         Some(Keyword::Thread)
     } else if word == b"fix".as_slice() {
@@ -88,7 +80,7 @@ fn keyword_of(word: &[u8]) -> Option<Keyword>
 }
 
 /// The word behind a setting's name.
-fn set(setting: Setting, args: &[&[u8]]) -> Option<Item>
+fn set(setting: Field, args: &[&[u8]]) -> Option<Item>
     ensures { result ≡ set_of setting (map (λ w. w.now) args.now) }
 {
     let [value] = args else {

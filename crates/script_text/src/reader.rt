@@ -4,12 +4,12 @@ ghost use Rattle.script_text.specs.Plan.{Plan};
 ghost use Rattle.script_text.specs.Grammar.{Takes, AreRead, lines_of, nothing_said};
 ghost use Rattle.script_text.specs.Faults.{is_faulty};
 ghost use Rattle.script_text.specs.Verdict.{IsBadLine, IsScript, IsBad};
-ghost use Rattle.script_text.specs.Within.{IsSettled, IsWithin};
+ghost use Rattle.script_text.specs.Within.{IsWithin};
 ghost use Rattle.script_text.specs.Left.{lines_left, left};
 
 use crate::draft::Draft;
 use crate::lines::item_of;
-use crate::script::Script;
+use crate::script::{SCRIPT_BYTES, Script};
 use page_ids::numerals::cut;
 use std::alloc::{AllocError, Global};
 
@@ -44,9 +44,8 @@ fn next_line(text: &[u8]) -> (&[u8], Option<&[u8]>)
 
 /// Takes all lines.
 fn read_lines(alloc: Global, bytes: &[u8]) -> Result<Draft, ScriptErr>
-    requires short { length bytes.now ≤ 1048576 }
+    requires short { length bytes.now ≤ SCRIPT_BYTES }
     ensures read { IfOk result (λ draft. AreRead nothing_said (lines_of bytes.now) draft) }
-    ensures settled { IfOk result (λ draft. IsSettled draft.config) }
     ensures bad { (n : ℕ) → result ≡ Err (ScriptErr.BadLine n) → IsBadLine (lines_of bytes.now) n }
 {
     let mut draft = Draft::new(alloc);
@@ -67,14 +66,13 @@ fn read_lines(alloc: Global, bytes: &[u8]) -> Result<Draft, ScriptErr>
 
 /// Whether the whole has a fault.
 fn is_faulty(script: &Script) -> bool
-    requires settled { IsSettled script.now.config }
     ensures { result ≡ is_faulty script.now }
 {
     let config = script.config();
-    let frames = u64::from(config.frames) * u64::from(config.max);
-    let bytes = u64::from(config.page.bytes()) * frames * u64::from(config.instances);
-    let chunks = config.chunks();
-    frames > 16384 || bytes > 2147483648 || chunks > u64::from(config.max) || chunks > 1
+    match config.check() {
+        Ok(chunks) => config.instances > 1 || config.first > 0 || chunks > 1,
+        Err(_) => true,
+    }
 }
 
 /// Reads a script. As bytes have one verdict only, what `read_script` says follows from these clauses.
@@ -82,7 +80,7 @@ fn read_whole(alloc: Global, bytes: &[u8]) -> Result<Script, ScriptErr>
     ensures read { IfOk result (λ script. IsScript bytes.now script) }
     ensures bad { (n : ℕ) → result ≡ Err (ScriptErr.BadLine n) → IsBad bytes.now n }
 {
-    if bytes.len() > 1048576 {
+    if bytes.len() > SCRIPT_BYTES {
         return Err(ScriptErr::BadLine { line: 0 });
     }
     let draft = read_lines(alloc, bytes)?;
@@ -95,9 +93,9 @@ fn read_whole(alloc: Global, bytes: &[u8]) -> Result<Script, ScriptErr>
 
 /// What the bytes of a script ask for, or the first line that isn't in the grammar.
 ///
-/// A script has at most 1048576 bytes, and one thread whose commands make at most 65536 calls.
-/// What is asked of the whole is looked at where every line is in the grammar: at most 16384 frames in an instance, 2^31 bytes in all
-/// possible frames, no more chunks at the start than there may be, and for now one chunk alone.
+/// A script has at most 1048576 bytes, and its threads' commands make at most 65536 calls; so far it has one thread.
+/// What is asked of the whole is looked at where every line is in the grammar: that a pool can be made with its numbers
+/// (`Config::check`), and so far that this is one instance, with one chunk at the start, whose history begins at place 0.
 pub fn read_script(alloc: Global, bytes: &[u8]) -> Result<Script, ScriptErr>
     ensures read { IfOk result (λ script. IsScript bytes.now script) }
     ensures within { IfOk result (λ script. IsWithin script) }

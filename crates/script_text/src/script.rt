@@ -5,6 +5,15 @@ ghost use Rattle.script_text.specs.Plan.{commands_of};
 use page_ids::{Bytes, Config, PageId};
 use std::marker::Model;
 
+/// The most bytes that a script may have.
+pub const SCRIPT_BYTES: usize = 1_048_576;
+
+/// The most calls that the commands of a script may make, those of all threads together.
+pub const MOST_CALLS: u64 = 65_536;
+
+/// The most threads that a script may have, until there are workers for more.
+pub const THREADS: u64 = 1;
+
 /// What a thread's line asks for.
 #[derive(Debug, PartialEq, Eq, Drop)]
 pub enum Command {
@@ -53,6 +62,13 @@ impl Script {
         ensures { result.now ≡ self.now.config }
     {
         &self.config
+    }
+
+    /// The commands of each thread.
+    pub(crate) fn threads(&self) -> &[Vec<Command>]
+        ensures { map (λ t. t.items) result.now ≡ self.now.threads }
+    {
+        self.threads.as_slice()
     }
 
     /// The commands of thread 1, in order; none where the script has no thread.

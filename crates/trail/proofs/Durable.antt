@@ -62,14 +62,14 @@ reaches_after durable h end (kind.Unwatch q) covered le was = was
 reaches_after durable h end (kind.Dump pct ids) covered le was = was
 reaches_after durable h end (kind.Refused asked why) covered le was = was
 
-reaches : (o : Opening) (past : List Event) (durable : ℕ) → AreLawful o past → AreDurable durable (entries past) → Reaches durable (dirty (entries past)) (log_end (entries past))
-reaches o [] durable good written = inl (omega arith)
-reaches o (event.Entry e ∷ past) durable good written = reaches_after durable (entries past) (log_end (entries past)) e.kind good.0.covered written.0 (reaches o past durable good.1 written.1)
-reaches o (event.Receipt r ∷ past) durable good written = reaches o past durable good.1 written
+reaches : (o : Opening) (sole : Option ℕ) (past : List Event) (durable : ℕ) → AreLawful o sole past → AreDurable durable (entries past) → Reaches durable (dirty (entries past)) (log_end (entries past))
+reaches o sole [] durable good written = inl (omega arith)
+reaches o sole (event.Entry e ∷ past) durable good written = reaches_after durable (entries past) (log_end (entries past)) e.kind good.0.covered written.0 (reaches o sole past durable good.1 written.1)
+reaches o sole (event.Receipt r ∷ past) durable good written = reaches o sole past durable good.1 written
 
 none_dirty : (durable : ℕ) (ds : List Dirty) (end : ℕ) → ds ≡ [] → Reaches durable ds end → end ≤ durable
 none_dirty durable ds end none (inl le) = le
 none_dirty durable ds end none (inr (p, d, found, newest)) = let bad : None ≡ Some d = sym (ap (λ (l : List Dirty). dirt_of l p) none) ∙ found in absurd (cc)
 
-pub clean_durable : (o : Opening) (past : List Event) (durable : ℕ) → AreLawful o past → AreDurable durable (entries past) → dirty (entries past) ≡ [] → log_end (entries past) ≤ durable
-clean_durable o past durable good written none = none_dirty durable (dirty (entries past)) (log_end (entries past)) none (reaches o past durable good written)
+pub clean_durable : (o : Opening) (sole : Option ℕ) (past : List Event) (durable : ℕ) → AreLawful o sole past → AreDurable durable (entries past) → dirty (entries past) ≡ [] → log_end (entries past) ≤ durable
+clean_durable o sole past durable good written none = none_dirty durable (dirty (entries past)) (log_end (entries past)) none (reaches o sole past durable good written)

@@ -9,15 +9,17 @@ use Rattle.trail.specs.declared.event.Entry.{Entry}
 use Rattle.trail.specs.declared.event.Event.{Event}
 use Rattle.trail.specs.declared.event.Event.TheVariants as event
 use Rattle.trail.specs.Trails.{Opening, entries, most}
-use Rattle.trail.specs.Kinds.{Refusing, refusal_in}
+use Rattle.trail.specs.Kinds.{Refusing, refusal_in, refusal_noted}
 use Rattle.trail.specs.Book.{Book, Hand, frame_in_turn, next_frame}
-use Rattle.trail.specs.Spaces.{IsInside, IsOutside, page_shown, pages_in_cause, pages_told_by, shown_pages, sought_page, told_pages}
-use Rattle.trail.specs.Promises.{ArePromised, IsOfSpaces}
+use Rattle.trail.specs.Spaces.{IsInside, IsOutside, page_noted, page_shown, pages_in_cause, pages_told_by, shown_pages, sought_page, told_pages}
+use Rattle.trail.specs.Promises.{ArePromised, IsNoteOfSpaces, IsOfSpaces}
+use Rattle.trail.specs.Alone.{IsTrueEvent}
+use Rattle.trail.specs.Laws.{AreLawful, IsLawful}
 
--- How many pages a space has, as a history whose entries tell it right shows it.
-pub record IsSpaceOf (pages : ℕ → ℕ) (h : List Entry) (s : ℕ) : Type 0 where
-  pub told : IfSome (told_pages h s) (λ n. n ≡ pages s)
-  pub shown : shown_pages h s ≤ pages s
+-- How many pages a space has, as a trail whose events tell it right shows it.
+pub record IsSpaceOf (pages : ℕ → ℕ) (past : List Event) (s : ℕ) : Type 0 where
+  pub told : IfSome (told_pages past s) (λ n. n ≡ pages s)
+  pub shown : shown_pages past s ≤ pages s
 
 number_is : (m n : ℕ) → nat_eq m n ≡ true → m ≡ n
 number_is m n h = grind (arith, nat_tests)
@@ -57,32 +59,38 @@ shown_after pages s (Some p) past is was = cases (nat_eq p.space s) refl
     cases true t = let same : pages p.space ≡ pages s = ap pages (number_is p.space s t) in most_below (p.page + 1) past (pages s) (omega (arith, is, same)) was
     cases false t = was
 
-pub spaces_of : (o : Opening) (pages : ℕ → ℕ) (past : List Event) → ArePromised o pages past → (s : ℕ) → IsSpaceOf pages (entries past) s
+pub spaces_of : (o : Opening) (pages : ℕ → ℕ) (past : List Event) → ArePromised o pages past → (s : ℕ) → IsSpaceOf pages past s
 spaces_of o pages [] promised s = record { told = tt; shown = omega arith }
 spaces_of o pages (event.Entry e ∷ past) promised s =
     let was = spaces_of o pages past promised.1 s in
     let of : IsOfSpaces pages e.kind = promised.0.0 in
     record {
-      told = told_after pages s (refusal_in e.kind) (told_pages (entries past) s) of.told was.told;
-      shown = shown_after pages s (page_shown e.kind) (shown_pages (entries past) s) of.inside was.shown;
+      told = told_after pages s (refusal_in e.kind) (told_pages past s) of.told was.told;
+      shown = shown_after pages s (page_shown e.kind) (shown_pages past s) of.inside was.shown;
     }
-spaces_of o pages (event.Receipt r ∷ past) promised s = spaces_of o pages past promised.1 s
+spaces_of o pages (event.Receipt r ∷ past) promised s =
+    let was = spaces_of o pages past promised.1 s in
+    let of : IsNoteOfSpaces pages r.note = promised.0.0 in
+    record {
+      told = told_after pages s (refusal_noted r.note) (told_pages past s) of.told was.told;
+      shown = shown_after pages s (page_noted r.note) (shown_pages past s) of.inside was.shown;
+    }
 
 is_inside : (pages told page : ℕ) → told ≡ pages → page < pages → page < told
 is_inside pages told page same less = omega (arith, same, less)
 
 -- a page of the space, and one that isn't there
-pub inside_of : (pages : ℕ → ℕ) (h : List Entry) (p : PageId) → IsSpaceOf pages h p.space → p.page < pages p.space → IsInside h p
-inside_of pages h p of less = go (told_pages h p.space) of.told
+pub inside_of : (pages : ℕ → ℕ) (past : List Event) (p : PageId) → IsSpaceOf pages past p.space → p.page < pages p.space → IsInside past p
+inside_of pages past p of less = go (told_pages past p.space) of.told
   where
     go : (o : Option ℕ) → IfSome o (λ n. n ≡ pages p.space) → IfSome o (λ n. p.page < n)
     go None is = tt
     go (Some n) is = is_inside (pages p.space) n p.page is less
 
-pub outside_of : (pages : ℕ → ℕ) (h : List Entry) (p : PageId) (n : ℕ) → IsSpaceOf pages h p.space → n ≡ pages p.space → n ≤ p.page → IsOutside h p n
-outside_of pages h p n of is past = record {
-  behind = past;
-  same = go (told_pages h p.space) of.told;
+pub outside_of : (pages : ℕ → ℕ) (past : List Event) (p : PageId) (n : ℕ) → IsSpaceOf pages past p.space → n ≡ pages p.space → n ≤ p.page → IsOutside past p n
+outside_of pages past p n of is behind = record {
+  behind = behind;
+  same = go (told_pages past p.space) of.told;
   shown = omega (arith, of.shown, is);
 }
   where
@@ -108,3 +116,29 @@ pub turn_of_own : (b : Book) (c n f : ℕ) → b.hand ≡ Some (record { frame =
 turn_of_own b c n f is =
     ap (λ (o : Option Hand). next_frame (record b { hand = o }) c n) is
     ∙ ap (λ (t : Bool). cond t (Some f) (frame_in_turn (record b { hand = None }))) (ap (λ (t : Bool). t && nat_eq n n) (eq-eqb c c refl) ∙ eq-eqb n n refl)
+
+-- Words are true at each event of a trail, where this is its sole caller. They are the one law that reads it.
+abbrev pub AreTrue : Option ℕ → List Event → Type 0
+AreTrue sole [] = ⊤
+AreTrue sole (e ∷ past) = IsTrueEvent sole past e × AreTrue sole past
+
+pub words_of : (o : Opening) (sole : Option ℕ) (past : List Event) → AreLawful o sole past → AreTrue sole past
+words_of o sole [] good = tt
+words_of o sole (e ∷ past) good = (good.0.words, words_of o sole past good.1)
+
+pub with_true : (o : Opening) (was sole : Option ℕ) (past : List Event) (e : Event) → IsLawful o was past e → IsTrueEvent sole past e → IsLawful o sole past e
+with_true o was sole past e law words =
+    record { legal = law.legal; order = law.order; still = law.still; covered = law.covered; causes = law.causes; words = words; victim = law.victim; withdrawal = law.withdrawal }
+
+pub with_words : (o : Opening) (was sole : Option ℕ) (past : List Event) → AreLawful o was past → AreTrue sole past → AreLawful o sole past
+with_words o was sole [] good words = tt
+with_words o was sole (e ∷ past) good words =
+    (with_true o was sole past e good.0 words.0, with_words o was sole past good.1 words.1)
+
+-- which nothing asks where there is none
+pub unasked : (o : Opening) (sole : Option ℕ) (past : List Event) → AreLawful o sole past → AreLawful o None past
+unasked o sole past good = with_words o sole None past good (none past)
+  where
+    none : (past : List Event) → AreTrue None past
+    none [] = tt
+    none (e ∷ past) = (tt, none past)

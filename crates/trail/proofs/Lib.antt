@@ -2,6 +2,7 @@ pub mod Lines
 pub mod Told
 pub mod Backward
 pub mod Merged
+pub mod Ordered
 pub mod Taking
 pub mod Numbers
 pub mod Visible

@@ -1,5 +1,5 @@
 -- In a trail that is lawful so far, the dirty pages rise by the start of their first change.
-use Rattle.std.proofs.Common.{◌≡◌, ℕ, zero, suc, Bool, true, false, not, cond, List, [], ◌∷◌, ◌<◌, ◌≤◌, Some, slice_get, subst, arith}
+use Rattle.std.proofs.Common.{◌≡◌, ℕ, zero, suc, Bool, true, false, not, cond, List, [], ◌∷◌, ◌<◌, ◌≤◌, Option, Some, slice_get, subst, arith}
 use Rattle.std.specs.Prelude.{⊤}
 use Rattle.page_ids.specs.Same.{same_page}
 use Rattle.page_ids.specs.declared.ids.PageId.{PageId}
@@ -80,10 +80,10 @@ rising_after o h mine c n (kind.Unwatch q) legal rising = rising
 rising_after o h mine c n (kind.Dump pct ids) legal rising = rising
 rising_after o h mine c n (kind.Refused asked why) legal rising = rising
 
-rising : (o : Opening) (past : List Event) → AreLawful o past → IsRising (log_end (entries past)) (dirty (entries past))
-rising o [] good = tt
-rising o (event.Entry e ∷ past) good = rising_after o (entries past) (own e.caller past) e.caller e.number e.kind good.0.legal.kind (rising o past good.1)
-rising o (event.Receipt r ∷ past) good = rising o past good.1
+rising : (o : Opening) (sole : Option ℕ) (past : List Event) → AreLawful o sole past → IsRising (log_end (entries past)) (dirty (entries past))
+rising o sole [] good = tt
+rising o sole (event.Entry e ∷ past) good = rising_after o (entries past) (own e.caller past) e.caller e.number e.kind good.0.legal.kind (rising o sole past good.1)
+rising o sole (event.Receipt r ∷ past) good = rising o sole past good.1
 
 behind_found : (n : ℕ) (ds : List Dirty) (j : ℕ) (later : Dirty) → IsBehind n ds → slice_get ds j ≡ Some later → n < later.oldest
 behind_found n [] j later behind there = absurd (cc)
@@ -104,11 +104,11 @@ within_found end (x ∷ ds) zero d rises there = let e : x ≡ d = cc in subst (
 within_found end (x ∷ ds) (suc i) d rises there = within_found end ds i d rises.1.1.1 there
 
 -- of two dirty pages the one in front was changed first
-pub dirty_rise : (o : Opening) (past : List Event) (i j : ℕ) (d later : Dirty) → AreLawful o past → i < j
+pub dirty_rise : (o : Opening) (sole : Option ℕ) (past : List Event) (i j : ℕ) (d later : Dirty) → AreLawful o sole past → i < j
     → slice_get (dirty (entries past)) i ≡ Some d → slice_get (dirty (entries past)) j ≡ Some later → d.oldest < later.oldest
-dirty_rise o past i j d later good before one other = rising_found (log_end (entries past)) (dirty (entries past)) i j d later (rising o past good) before one other
+dirty_rise o sole past i j d later good before one other = rising_found (log_end (entries past)) (dirty (entries past)) i j d later (rising o sole past good) before one other
 
 -- and the log ends at or behind the last change of each
-pub dirty_within : (o : Opening) (past : List Event) (i : ℕ) (d : Dirty) → AreLawful o past → slice_get (dirty (entries past)) i ≡ Some d
+pub dirty_within : (o : Opening) (sole : Option ℕ) (past : List Event) (i : ℕ) (d : Dirty) → AreLawful o sole past → slice_get (dirty (entries past)) i ≡ Some d
     → (d.oldest < d.newest) × (d.newest ≤ log_end (entries past))
-dirty_within o past i d good there = within_found (log_end (entries past)) (dirty (entries past)) i d (rising o past good) there
+dirty_within o sole past i d good there = within_found (log_end (entries past)) (dirty (entries past)) i d (rising o sole past good) there

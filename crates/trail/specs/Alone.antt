@@ -1,6 +1,6 @@
 -- Found words where nobody else is there: they are just what the trail says.
 use Rattle.std.specs.Prelude.{ℕ, Bool, true, false, List, [], ◌∷◌, ◌≡◌, ◌==◌, ◌&&◌, Option, None, Some, IfSome, ⊤, if◌then◌else◌}
-use Rattle.std.specs.List.{list_all}
+use Rattle.std.specs.List.{list_all, list_any}
 use Rattle.std.specs.Option.{option_map_or}
 use Rattle.trail.specs.declared.event.Call.{Call}
 use Rattle.trail.specs.declared.event.Call.TheVariants as call
@@ -16,8 +16,8 @@ use Rattle.trail.specs.declared.event.Event.{Event}
 use Rattle.trail.specs.declared.event.Event.TheVariants as event
 use Rattle.trail.specs.Trails.{caller_of, number_of, entries, own}
 use Rattle.trail.specs.History.{tenant}
-use Rattle.trail.specs.Words.{Hint, hint_of, cause_words, cause_tag, words_told, AreTrueWords}
-use Rattle.trail.specs.Calls.{open_fixes}
+use Rattle.trail.specs.Words.{Hint, hint_of, cause_words, cause_tag, AreTrueWords}
+use Rattle.trail.specs.Calls.{calls_of, held_by}
 
 -- somebody else had latched the frame
 abbrev pub is_busy : Cause → Bool
@@ -25,28 +25,29 @@ is_busy (cause.Latched found) = true
 is_busy (cause.Busy found) = true
 is_busy _ = false
 
-abbrev pub is_clean_call : Call → Bool
-is_clean_call (call.Clean bound) = true
-is_clean_call _ = false
+-- whether the refusal is that of a clean which got so far as to begin
+abbrev pub refuses_clean : Call → Cause → Bool
+refuses_clean (call.Clean bound) (cause.PlacesSpent mark need) = false
+refuses_clean (call.Clean bound) why = true
+refuses_clean asked why = false
 
-abbrev pub is_spent : Cause → Bool
-is_spent (cause.PlacesSpent mark need) = true
-is_spent _ = false
-
--- whether the entry answers a clean that got so far as to begin
+-- whether the event answers such a clean
 abbrev pub ends_clean : Kind → Bool
 ends_clean (kind.Clean written skipped) = true
-ends_clean (kind.Refused asked why) = if is_spent why then false else is_clean_call asked
+ends_clean (kind.Refused asked why) = refuses_clean asked why
 ends_clean _ = false
+
+abbrev pub notes_clean : Note → Bool
+notes_clean (note.Refused asked why) = refuses_clean asked why
+notes_clean _ = false
 
 abbrev pub closes : Event → Bool
 closes (event.Entry e) = ends_clean e.kind
-closes (event.Receipt r) = false
+closes (event.Receipt r) = notes_clean r.note
 
 -- the number of the closing flush: caller 0's last call, where that is such a clean
 abbrev pub closing_number : List Event → Option ℕ
-closing_number [] = None
-closing_number (e ∷ past) = if caller_of e == 0 then (if closes e then Some (number_of e) else None) else closing_number past
+closing_number past = let last = calls_of (own 0 past) in if list_any (λ e. (number_of e == last) && closes e) (own 0 past) then Some last else None
 
 -- whether the event is of the closing flush
 abbrev pub is_of_flush : Option ℕ → Event → Bool
@@ -63,8 +64,8 @@ only_caller [] = Some 0
 only_caller (c ∷ cs) = if list_all (λ d. d == c) cs then Some c else None
 
 -- the one caller that made all calls of a whole trail but the closing flush
-abbrev pub sole_caller : List Event → Option ℕ
-sole_caller past = only_caller (other_callers (closing_number past) past)
+abbrev pub sole_of : List Event → Option ℕ
+sole_of past = only_caller (other_callers (closing_number past) past)
 
 -- What a refusal tells of words and of a page is just what the history says, where these are all open fixes; nobody was there to make a frame busy.
 pub record IsTrueRefusal (h : List Entry) (held : List Held) (asked : Call) (why : Cause) : Type 0 where
@@ -72,26 +73,21 @@ pub record IsTrueRefusal (h : List Entry) (held : List Held) (asked : Call) (why
   pub tag : IfSome (hint_of asked) (λ (hint : Hint). IfSome (cause_tag why) (λ p. tenant h hint.frame ≡ Some p))
   pub free : is_busy why ≡ false
 
+-- and so an entry; nor was anybody there to latch a frame that a clean would write
 abbrev pub IsTrueKind : List Entry → List Held → Kind → Type 0
+IsTrueKind h held (kind.Evict p f passed) = AreTrueWords h held passed
+IsTrueKind h held (kind.Clean written skipped) = skipped ≡ []
 IsTrueKind h held (kind.Refused asked why) = IsTrueRefusal h held asked why
-IsTrueKind h held k = AreTrueWords h held (words_told k)
+IsTrueKind h held k = ⊤
 
 abbrev pub IsTrueNote : List Entry → List Held → Note → Type 0
 IsTrueNote h held (note.Refused asked why) = IsTrueRefusal h held asked why
 IsTrueNote h held n = ⊤
 
--- an event of the sole caller; the closing flush of another caller tells no words
-abbrev pub IsTrueBy : Bool → List Entry → List Event → Event → Type 0
-IsTrueBy true h mine (event.Entry e) = IsTrueKind h (open_fixes mine) e.kind
-IsTrueBy true h mine (event.Receipt r) = IsTrueNote h (open_fixes mine) r.note
-IsTrueBy false h mine (event.Entry e) = words_told e.kind ≡ []
-IsTrueBy false h mine (event.Receipt r) = ⊤
+abbrev pub IsTrueOf : List Entry → List Held → Event → Type 0
+IsTrueOf h held (event.Entry e) = IsTrueKind h held e.kind
+IsTrueOf h held (event.Receipt r) = IsTrueNote h held r.note
 
--- at each event, where there is a sole caller
-abbrev pub IsTrueEvent : Option ℕ → List Entry → List Event → Event → Type 0
-IsTrueEvent sole h mine e = IfSome sole (λ c. IsTrueBy (caller_of e == c) h mine e)
-
--- and so at each event of a trail
-abbrev pub AreTrue : Option ℕ → List Event → Type 0
-AreTrue sole [] = ⊤
-AreTrue sole (e ∷ past) = IsTrueEvent sole (entries past) (own (caller_of e) past) e × AreTrue sole past
+-- Where a trail has a sole caller, all open fixes are that caller's, at each event: also at those of the closing flush.
+abbrev pub IsTrueEvent : Option ℕ → List Event → Event → Type 0
+IsTrueEvent sole past e = IfSome sole (λ c. IsTrueOf (entries past) (held_by past c) e)

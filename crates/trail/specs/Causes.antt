@@ -1,4 +1,4 @@
--- Why calls are refused. The state is that before the event; `mine` are the caller's own events.
+-- Why calls are refused. The state is that before the event; `mine` are the caller's own events, and all events before it, `past`, tell what spaces have.
 use Rattle.std.specs.Prelude.{ℕ, Bool, true, false, List, [], ◌∷◌, ◌≡◌, ◌≢◌, ◌==◌, ◌&&◌, ◌≤◌, ◌<◌, ◌+◌, ◌*◌, ◌⊎◌, length, Option, None, Some, IfSome, IsSomeAnd, IsTrue, is_none, nat_le, nat_lt, if◌then◌else◌}
 use Rattle.std.specs.List.{AllByRecursion}
 use Rattle.std.specs.Option.{option_or, option_map}
@@ -35,7 +35,7 @@ use Rattle.trail.specs.Spaces.{IsInside, IsOutside, sought_page}
 use Rattle.trail.specs.Needs.{HasPlaces, need_of, others_area}
 use Rattle.trail.specs.Victim.{AreAllFixed}
 
--- Some causes are exact: a call is refused with one exactly where it holds and none before it does. The others come only where they hold.
+-- Some causes are exact: a call is not granted where one of its own holds, and is refused with the first of these. The others come only where they hold.
 abbrev pub is_exact : Cause → Bool
 is_exact (cause.PlacesSpent mark need) = true
 is_exact (cause.NoSuchPage pages) = true
@@ -90,7 +90,8 @@ resize_cause config h c n bytes =
     else if nat_lt config.max (chunks_for config bytes) then Some (cause.TooLarge (chunks_for config bytes) config.max)
     else option_map (λ (a : Area). cause.Withdrawing a.from) (others_area (book config h) c n)
 
--- The first exact cause that holds of a call of the caller, once its places are left and its page is inside its space.
+-- The first exact cause that holds of a call of the caller, of those that such a call may have, but for want of places and of its page. A cause that
+-- isn't in the call's list is never the first one, so no refusal of the call with it is lawful.
 abbrev pub due : Opening → List Entry → List Event → ℕ → ℕ → Call → Option Cause
 due o h mine c n (call.Fix p now) = full_cause mine
 due o h mine c n (call.Create p now) = option_or (full_cause mine) (resident_cause h p)
@@ -173,16 +174,24 @@ Comes o h made asked (cause.Latched found) = is_latched found ≡ true
 Comes o h made asked (cause.Busy found) = is_latched found ≡ true
 Comes o h made asked _ = ⊥
 
--- the history has not the places that the call needs
-pub record IsSpent (o : Opening) (h : List Entry) (c n : ℕ) (asked : Call) (mark need : ℕ) : Type 0 where
+-- the page of which a caller has to have a fix for this call
+abbrev pub fixed_page : Call → Option PageId
+fixed_page (call.Put p at bytes) = Some p
+fixed_page (call.Read p at len) = Some p
+fixed_page (call.Unfix p) = Some p
+fixed_page _ = None
+
+-- The history has not the places that the call needs. That a caller has no fix stands before this cause, and all others behind it.
+pub record IsSpent (o : Opening) (h : List Entry) (mine : List Event) (c n : ℕ) (asked : Call) (mark need : ℕ) : Type 0 where
+  pub held : IfSome (fixed_page asked) (λ p. unheld_cause mine p ≡ None)
   pub mark_is : mark ≡ Rattle.trail.specs.Trails.mark o.first h
   pub need_is : need_of o.config h c n asked ≡ Some need
   pub beyond : LIMIT < mark + need
 
--- the call got as far as its own causes: its places were left, and its page is inside its space
-pub record IsReached (o : Opening) (h : List Entry) (made : List Entry) (c n : ℕ) (asked : Call) : Type 0 where
+-- its places were left before the call's first entry, and no refusal told that its page isn't there
+pub record IsReached (o : Opening) (past : List Event) (h : List Entry) (made : List Entry) (c n : ℕ) (asked : Call) : Type 0 where
   pub places : HasPlaces o.first o.config (before_call made h) c n asked
-  pub inside : IfSome (sought_page asked) (IsInside h)
+  pub inside : IfSome (sought_page asked) (IsInside past)
 
 -- the first exact cause of the call is this one; or it has none, and one comes that is not exact
 abbrev pub IsFirst : Bool → Opening → List Entry → List Entry → Option Cause → Call → Cause → Type 0
@@ -190,26 +199,26 @@ IsFirst true o h made first asked why = first ≡ Some why
 IsFirst false o h made first asked why = (first ≡ None) × Comes o h made asked why
 
 -- Places stand before all other causes, and the page's space before the rest. That a caller has no fix is the answer of its worker, before all causes of the pool.
-abbrev pub IsRefused : Opening → List Entry → List Event → ℕ → ℕ → Call → Cause → Type 0
-IsRefused o h mine c n asked (cause.PlacesSpent mark need) = IsSpent o (before_undo (made n mine) h) c n asked mark need
-IsRefused o h mine c n asked (cause.NoSuchPage pages) =
-    HasPlaces o.first o.config (before_call (made n mine) h) c n asked × IsSomeAnd (sought_page asked) (λ p. IsOutside h p pages)
-IsRefused o h mine c n asked cause.Unheld = due o h mine c n asked ≡ Some cause.Unheld
-IsRefused o h mine c n asked why = IsReached o h (made n mine) c n asked × IsFirst (is_exact why) o h (made n mine) (due o h mine c n asked) asked why
+abbrev pub IsRefused : Opening → List Event → List Entry → List Event → ℕ → ℕ → Call → Cause → Type 0
+IsRefused o past h mine c n asked (cause.PlacesSpent mark need) = IsSpent o (before_undo (made n mine) h) mine c n asked mark need
+IsRefused o past h mine c n asked (cause.NoSuchPage pages) =
+    HasPlaces o.first o.config (before_call (made n mine) h) c n asked × IsSomeAnd (sought_page asked) (λ p. IsOutside past p pages)
+IsRefused o past h mine c n asked cause.Unheld = due o h mine c n asked ≡ Some cause.Unheld
+IsRefused o past h mine c n asked why = IsReached o past h (made n mine) c n asked × IsFirst (is_exact why) o h (made n mine) (due o h mine c n asked) asked why
 
 -- A call that is granted has no exact cause.
-pub record IsGranted (o : Opening) (h : List Entry) (mine : List Event) (c n : ℕ) (asked : Call) : Type 0 where
-  pub reached : IsReached o h (made n mine) c n asked
+pub record IsGranted (o : Opening) (past : List Event) (h : List Entry) (mine : List Event) (c n : ℕ) (asked : Call) : Type 0 where
+  pub reached : IsReached o past h (made n mine) c n asked
   pub none_due : due o h mine c n asked ≡ None
 
-abbrev pub IsCausedKind : Opening → List Entry → List Event → ℕ → ℕ → Kind → Type 0
-IsCausedKind o h mine c n (kind.Refused asked why) = IsRefused o h mine c n asked why
-IsCausedKind o h mine c n k = IfSome (granted_call k) (IsGranted o h mine c n)
+abbrev pub IsCausedKind : Opening → List Event → List Entry → List Event → ℕ → ℕ → Kind → Type 0
+IsCausedKind o past h mine c n (kind.Refused asked why) = IsRefused o past h mine c n asked why
+IsCausedKind o past h mine c n k = IfSome (granted_call k) (IsGranted o past h mine c n)
 
-abbrev pub IsCausedNote : Opening → List Entry → List Event → ℕ → ℕ → Note → Type 0
-IsCausedNote o h mine c n (note.Refused asked why) = IsRefused o h mine c n asked why
-IsCausedNote o h mine c n k = IfSome (noted_call k) (IsGranted o h mine c n)
+abbrev pub IsCausedNote : Opening → List Event → List Entry → List Event → ℕ → ℕ → Note → Type 0
+IsCausedNote o past h mine c n (note.Refused asked why) = IsRefused o past h mine c n asked why
+IsCausedNote o past h mine c n k = IfSome (noted_call k) (IsGranted o past h mine c n)
 
-abbrev pub IsCaused : Opening → List Entry → List Event → Event → Type 0
-IsCaused o h mine (event.Entry e) = IsCausedKind o h mine e.caller e.number e.kind
-IsCaused o h mine (event.Receipt r) = IsCausedNote o h mine r.caller r.number r.note
+abbrev pub IsCaused : Opening → List Event → List Entry → List Event → Event → Type 0
+IsCaused o past h mine (event.Entry e) = IsCausedKind o past h mine e.caller e.number e.kind
+IsCaused o past h mine (event.Receipt r) = IsCausedNote o past h mine r.caller r.number r.note

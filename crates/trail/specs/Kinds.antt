@@ -5,6 +5,10 @@ use Rattle.trail.specs.declared.event.Call.{Call}
 use Rattle.trail.specs.declared.event.Cause.{Cause}
 use Rattle.trail.specs.declared.event.Kind.{Kind}
 use Rattle.trail.specs.declared.event.Kind.TheVariants as kind
+use Rattle.trail.specs.declared.event.Note.{Note}
+use Rattle.trail.specs.declared.event.Note.TheVariants as note
+use Rattle.trail.specs.declared.event.Event.{Event}
+use Rattle.trail.specs.declared.event.Event.TheVariants as event
 
 -- Whether the entry is the answer of its call. What a call does before it is answered comes as entries of its own.
 abbrev pub kind_answers : Kind → Bool
@@ -186,3 +190,12 @@ refusal_in (kind.Occurred p arrived) = None
 refusal_in (kind.Unwatch p) = None
 refusal_in (kind.Dump pct ids) = None
 refusal_in (kind.Refused asked why) = Some (record { call = asked; cause = why })
+
+abbrev pub refusal_noted : Note → Option Refusing
+refusal_noted (note.Refused asked why) = Some (record { call = asked; cause = why })
+refusal_noted _ = None
+
+-- an entry or a receipt
+abbrev pub refusal_of : Event → Option Refusing
+refusal_of (event.Entry e) = refusal_in e.kind
+refusal_of (event.Receipt r) = refusal_noted r.note

@@ -30,7 +30,7 @@ use Rattle.trail.specs.Order.{order}
 use Rattle.trail.specs.Watches.{Watch, watch_of}
 use Rattle.trail.specs.Words.{frames_of}
 use Rattle.trail.specs.Calls.{calls_of, made, is_answered, first_made, before_call, open_fixes, newest_fix}
-use Rattle.trail.specs.Preceding.{MayPrecede}
+use Rattle.trail.specs.Preceding.{MayPrecede, MayPrecedeNote}
 
 -- a fact of the page's value, where values are told
 abbrev pub OnValue : Opening → List Entry → PageId → (Option Content → Type 0) → Type 0
@@ -162,10 +162,11 @@ pub record IsLegalEntry (o : Opening) (h : List Entry) (mine : List Event) (e : 
   pub before : MayPrecede h (made e.number mine) e.kind
   pub kind : IsLegalKind o h mine e.caller e.number e.kind
 
--- a call that is answered by a receipt has no entry
+-- a receipt is the answer of its call
 pub record IsLegalReceipt (o : Opening) (h : List Entry) (mine : List Event) (r : Receipt) : Type 0 where
   pub place : r.place ≡ mark o.first h
-  pub number : r.number ≡ calls_of mine + 1
+  pub number : IsNumbered mine r.number
+  pub before : MayPrecedeNote h (made r.number mine) r.note
   pub note : IsLegalNote o h mine r.note
 
 abbrev pub IsLegal : Opening → List Entry → List Event → Event → Type 0

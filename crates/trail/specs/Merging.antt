@@ -1,11 +1,13 @@
 -- A history with each receipt behind the entry of its place.
-use Rattle.std.specs.Prelude.{ℕ, List, [], ◌∷◌, ◌++◌, ◌≡◌, ◌==◌, ◌+◌, filter, map, flat_map, sum_by, reverse, vec_len, Vec}
+use Rattle.std.specs.List.{AllByRecursion}
+use Rattle.std.specs.Prelude.{ℕ, List, [], ◌∷◌, ◌++◌, ◌≡◌, ◌==◌, ◌+◌, ◌<◌, ◌⊎◌, filter, map, flat_map, sum_by, reverse, vec_len, Vec}
 use Rattle.std.specs.declared.alloc.Global.{Global}
 use Rattle.trail.specs.declared.event.Entry.{Entry}
 use Rattle.trail.specs.declared.event.Receipt.{Receipt}
 use Rattle.trail.specs.declared.event.Event.{Event}
 use Rattle.trail.specs.declared.event.Event.TheVariants as event
 use Rattle.trail.specs.Trails.{mark, AreWithin, entries}
+use Rattle.trail.specs.Legal.{IsInOrder}
 
 -- the receipts of the accounts, and how many they are
 abbrev pub lists : List (Vec Receipt Global) → List (List Receipt)
@@ -32,6 +34,25 @@ merged place (e ∷ es) accounts = receipts_at place accounts ++ event.Entry e �
 abbrev pub AllWithin : ℕ → List (List Receipt) → Type 0
 AllWithin n [] = Unit {0}
 AllWithin n (account ∷ accounts) = AreWithin n (reverse account) × AllWithin n accounts
+
+-- the receipts of all accounts, account by account
+abbrev pub together : List (List Receipt) → List Receipt
+together [] = []
+together (account ∷ accounts) = account ++ together accounts
+
+-- the one is of an earlier caller, or of an earlier call of the same
+abbrev pub IsEarlier : Receipt → Receipt → Type 0
+IsEarlier q r = (q.caller < r.caller) ⊎ ((q.caller ≡ r.caller) × (q.number < r.number))
+
+-- callers rise, and each one's numbers
+abbrev pub AreByCaller : List Receipt → Type 0
+AreByCaller [] = Unit {0}
+AreByCaller (r ∷ rs) = AllByRecursion (IsEarlier r) rs × AreByCaller rs
+
+-- Events, the newest first: receipts of one place stand by caller, then number.
+abbrev pub AreInOrder : List Event → Type 0
+AreInOrder [] = Unit {0}
+AreInOrder (e ∷ past) = IsInOrder past e × AreInOrder past
 
 -- Events, the newest first: each entry has the next place, and each receipt that of the newest entry before it.
 abbrev pub IsPlaced : ℕ → List Event → Type 0

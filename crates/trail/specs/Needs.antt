@@ -1,4 +1,4 @@
--- How many places of the history a call needs, by the state before its first entry.
+-- How many places of the history a call needs, by the state before its first entry, or before its undoing where that tells of a later round.
 use Rattle.std.specs.Prelude.{ℕ, List, ◌==◌, ◌+◌, ◌-◌, ◌*◌, ◌≤◌, Option, None, Some, IfSome, length, nat_lt, if◌then◌else◌}
 use Rattle.std.specs.Option.{option_map_or}
 use Rattle.page_ids.specs.Chunks.{chunks_for}
@@ -9,7 +9,7 @@ use Rattle.trail.specs.declared.event.Call.{Call}
 use Rattle.trail.specs.declared.event.Call.TheVariants as call
 use Rattle.trail.specs.declared.event.Entry.{Entry}
 use Rattle.trail.specs.Trails.{mark}
-use Rattle.trail.specs.Book.{Area, Book, book, is_owner}
+use Rattle.trail.specs.Book.{Area, Book, area_frames, book, is_owner}
 use Rattle.trail.specs.Dirt.{dirty}
 
 -- the area that another call is withdrawing
@@ -23,6 +23,10 @@ resize_need config b bytes target =
     else if nat_lt config.max target then ANSWER_NEED
     else if nat_lt target b.chunks then round_need ((b.chunks - target) * config.frames)
     else if target == b.chunks then ANSWER_NEED else GROWTH_NEED
+
+-- A resize in the state of its first entry goes by its target, and by the area that it has opened later on; while another call's area is open it leaves its answer alone.
+abbrev pub area_need : Config → Book → ℕ → ℕ → ℕ
+area_need config b c n = if is_owner b c n then round_need (length (area_frames config.frames b)) else ANSWER_NEED
 
 -- the calls that take no turn leave receipts alone
 abbrev pub need_of : Config → List Entry → ℕ → ℕ → Call → Option ℕ
@@ -39,7 +43,7 @@ need_of config h c n (call.Clean bound) = Some (clean_need bound (length (dirty 
 need_of config h c n call.Check = Some ANSWER_NEED
 need_of config h c n (call.Dump pct) = Some ANSWER_NEED
 need_of config h c n (call.Resize bytes rounds) =
-    Some (option_map_or (λ (a : Area). ANSWER_NEED) (others_area (book config h) c n) (resize_need config (book config h) bytes (chunks_for config bytes)))
+    let b = book config h in Some (option_map_or (λ (a : Area). area_need config b c n) b.area (resize_need config b bytes (chunks_for config bytes)))
 
 -- the last place that the call may take; a clean of the runner, caller 0, may be the closing flush
 abbrev pub limit_of : ℕ → Call → ℕ

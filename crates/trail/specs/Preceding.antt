@@ -9,6 +9,8 @@ use Rattle.trail.specs.declared.event.Cause.{Cause}
 use Rattle.trail.specs.declared.event.Cause.TheVariants as cause
 use Rattle.trail.specs.declared.event.Kind.{Kind}
 use Rattle.trail.specs.declared.event.Kind.TheVariants as kind
+use Rattle.trail.specs.declared.event.Note.{Note}
+use Rattle.trail.specs.declared.event.Note.TheVariants as note
 use Rattle.trail.specs.declared.event.Entry.{Entry}
 use Rattle.trail.specs.Kinds.{write_in}
 use Rattle.trail.specs.History.{home}
@@ -100,23 +102,32 @@ MayPrecedeUncreated h p ks why = ks ≡ []
 
 -- a resize that was refused behind its first entry took its withdrawal back
 abbrev pub MayPrecedeUndone : List Entry → Cause → Type 0
-MayPrecedeUndone made (cause.PlacesSpent mark need) = AreEndedBy is_undo made
-MayPrecedeUndone made (cause.RedoFault before after) = AreEndedBy is_undo made
-MayPrecedeUndone made (cause.DiskFault before after) = AreEndedBy is_undo made
+MayPrecedeUndone made (cause.PlacesSpent mark need) = (made ≡ []) ⊎ AreEndedBy is_undo made
+MayPrecedeUndone made (cause.RedoFault before after) = (made ≡ []) ⊎ AreEndedBy is_undo made
+MayPrecedeUndone made (cause.DiskFault before after) = (made ≡ []) ⊎ AreEndedBy is_undo made
 MayPrecedeUndone made (cause.Undone seen) = AreEndedBy is_undo made
 MayPrecedeUndone made why = made ≡ []
 
+-- what a call that is refused may have before that
+abbrev pub MayPrecedeRefused : List Entry → List Entry → Call → Cause → Type 0
+MayPrecedeRefused h made (call.Fix p now) why = MayPrecedeUnfixed h p (kinds made) why
+MayPrecedeRefused h made (call.Create p now) why = MayPrecedeUncreated h p (kinds made) why
+MayPrecedeRefused h made (call.Clean bound) why = AreWrites (kinds made)
+MayPrecedeRefused h made (call.Resize bytes rounds) why = MayPrecedeUndone made why
+MayPrecedeRefused h made asked why = made ≡ []
+
 -- As an entry, the refusal for want of places comes only behind a withdrawal that was taken back.
-abbrev pub MayPrecedeSpent : Cause → Type 0
-MayPrecedeSpent (cause.PlacesSpent mark need) = ⊥
-MayPrecedeSpent _ = ⊤
+abbrev pub MayPrecedeSpent : List Entry → Cause → Type 0
+MayPrecedeSpent made (cause.PlacesSpent mark need) = AreEndedBy is_undo made
+MayPrecedeSpent made _ = ⊤
 
 abbrev pub MayPrecedeRefusal : List Entry → List Entry → Call → Cause → Type 0
-MayPrecedeRefusal h made (call.Fix p now) why = MayPrecedeSpent why × MayPrecedeUnfixed h p (kinds made) why
-MayPrecedeRefusal h made (call.Create p now) why = MayPrecedeSpent why × MayPrecedeUncreated h p (kinds made) why
-MayPrecedeRefusal h made (call.Clean bound) why = MayPrecedeSpent why × AreWrites (kinds made)
-MayPrecedeRefusal h made (call.Resize bytes rounds) why = MayPrecedeUndone made why
-MayPrecedeRefusal h made asked why = MayPrecedeSpent why × (made ≡ [])
+MayPrecedeRefusal h made asked why = MayPrecedeSpent made why × MayPrecedeRefused h made asked why
+
+-- and so where the answer is a receipt: no other call that a receipt answers has entries
+abbrev pub MayPrecedeNote : List Entry → List Entry → Note → Type 0
+MayPrecedeNote h made (note.Refused asked why) = MayPrecedeRefused h made asked why
+MayPrecedeNote h made _ = made ≡ []
 
 -- What may stand before an answer at this history.
 abbrev pub MayPrecede : List Entry → List Entry → Kind → Type 0

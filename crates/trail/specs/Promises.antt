@@ -1,6 +1,6 @@
--- What the calls promise beside the laws: which refusals a call has and how it leaves them, how many pages a space has, and that lists of frames rise.
--- A trail alone doesn't show it.
-use Rattle.std.specs.Prelude.{ℕ, Bool, true, false, List, [], ◌∷◌, ◌≡◌, ◌≤◌, ◌<◌, None, IfSome, IsSome, IsTrue, length, take, ⊤}
+-- Some of what the calls promise beside the laws: which refusals a call has, whether they are entries or receipts, that a space has as many pages as a refusal
+-- tells, and that lists of frames rise. A trail alone doesn't show it.
+use Rattle.std.specs.Prelude.{ℕ, Bool, true, false, List, [], ◌∷◌, ◌≡◌, ◌≤◌, ◌<◌, None, IfSome, IsSome, IsTrue, length, take, ⊤, Option}
 use Rattle.page_ids.specs.FrameWord.{AreRising}
 use Rattle.page_ids.specs.declared.ids.PageId.{PageId}
 use Rattle.trail.specs.declared.event.Call.{Call}
@@ -15,12 +15,12 @@ use Rattle.trail.specs.declared.event.Entry.{Entry}
 use Rattle.trail.specs.declared.event.Event.{Event}
 use Rattle.trail.specs.declared.event.Event.TheVariants as event
 use Rattle.trail.specs.Trails.{Opening, caller_of, entries, own}
-use Rattle.trail.specs.Kinds.{refusal_in}
+use Rattle.trail.specs.Kinds.{Refusing, refusal_in, refusal_noted}
 use Rattle.trail.specs.History.{home}
 use Rattle.trail.specs.Dirt.{dirty, pages_of}
 use Rattle.trail.specs.Calls.{made, before_call}
 use Rattle.trail.specs.Legal.{OnValue, written_pages}
-use Rattle.trail.specs.Spaces.{sought_page, page_shown, pages_in_cause}
+use Rattle.trail.specs.Spaces.{sought_page, page_noted, page_shown, pages_in_cause}
 use Rattle.trail.specs.Causes.{is_exact}
 
 -- every frame was seen with a fix, or a device failed
@@ -89,24 +89,31 @@ pub record IsFairRefusal (noted : Bool) (o : Opening) (h made : List Entry) (ask
   pub rising : TellsRising why
   pub begun : IsBegunCall h made asked
 
--- what the entry tells of a space is so: the page of an answer is in it, and a refusal for a page that isn't there names the number of its pages
-pub record IsOfSpaces (pages : ℕ → ℕ) (k : Kind) : Type 0 where
-  pub inside : IfSome (page_shown k) (λ p. p.page < pages p.space)
-  pub told : IfSome (refusal_in k) (λ r. IfSome (sought_page r.call) (λ p. IfSome (pages_in_cause r.cause) (λ n. n ≡ pages p.space)))
+-- What an event tells of a space is so: the page that an answer shows is in it, and a refusal for a page that isn't there names the number of its pages.
+pub record IsTold (pages : ℕ → ℕ) (shown : Option PageId) (refusal : Option Refusing) : Type 0 where
+  pub inside : IfSome shown (λ p. p.page < pages p.space)
+  pub told : IfSome refusal (λ r. IfSome (sought_page r.call) (λ p. IfSome (pages_in_cause r.cause) (λ n. n ≡ pages p.space)))
 
--- frames that an evict passed rise, each told once
+abbrev pub IsOfSpaces : (ℕ → ℕ) → Kind → Type 0
+IsOfSpaces pages k = IsTold pages (page_shown k) (refusal_in k)
+
+abbrev pub IsNoteOfSpaces : (ℕ → ℕ) → Note → Type 0
+IsNoteOfSpaces pages n = IsTold pages (page_noted n) (refusal_noted n)
+
+-- frames that an evict passed or a clean skipped rise, each told once
 abbrev pub IsPromisedKind : Opening → List Entry → List Entry → Kind → Type 0
 IsPromisedKind o h made (kind.Refused asked why) = IsFairRefusal false o h made asked why
 IsPromisedKind o h made (kind.Evict p f passed) = AreRising passed
+IsPromisedKind o h made (kind.Clean written skipped) = AreRising skipped
 IsPromisedKind o h made _ = ⊤
 
-abbrev pub IsPromisedNote : Opening → List Entry → Note → Type 0
-IsPromisedNote o h (note.Refused asked why) = IsFairRefusal true o h [] asked why
-IsPromisedNote o h _ = ⊤
+abbrev pub IsPromisedNote : Opening → List Entry → List Entry → Note → Type 0
+IsPromisedNote o h made (note.Refused asked why) = IsFairRefusal true o h made asked why
+IsPromisedNote o h made _ = ⊤
 
 abbrev pub IsPromised : Opening → (ℕ → ℕ) → List Entry → List Event → Event → Type 0
 IsPromised o pages h mine (event.Entry e) = IsOfSpaces pages e.kind × IsPromisedKind o h (made e.number mine) e.kind
-IsPromised o pages h mine (event.Receipt r) = IsPromisedNote o h r.note
+IsPromised o pages h mine (event.Receipt r) = IsNoteOfSpaces pages r.note × IsPromisedNote o h (made r.number mine) r.note
 
 -- and so at each event of a trail, the newest first
 abbrev pub ArePromised : Opening → (ℕ → ℕ) → List Event → Type 0

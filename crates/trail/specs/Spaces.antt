@@ -1,4 +1,4 @@
--- How many pages a space has, as far as a history shows it. The newest entry stands first.
+-- How many pages a space has, as far as the answers of a trail show it, be they entries or receipts. The newest event stands first.
 use Rattle.std.specs.Prelude.{ℕ, List, [], ◌∷◌, ◌≡◌, ◌==◌, ◌+◌, ◌<◌, ◌≤◌, Option, None, Some, IfSome, if◌then◌else◌}
 use Rattle.std.specs.Option.{option_map_or}
 use Rattle.page_ids.specs.declared.ids.PageId.{PageId}
@@ -8,9 +8,12 @@ use Rattle.trail.specs.declared.event.Cause.{Cause}
 use Rattle.trail.specs.declared.event.Cause.TheVariants as cause
 use Rattle.trail.specs.declared.event.Kind.{Kind}
 use Rattle.trail.specs.declared.event.Kind.TheVariants as kind
-use Rattle.trail.specs.declared.event.Entry.{Entry}
+use Rattle.trail.specs.declared.event.Note.{Note}
+use Rattle.trail.specs.declared.event.Note.TheVariants as note
+use Rattle.trail.specs.declared.event.Event.{Event}
+use Rattle.trail.specs.declared.event.Event.TheVariants as event
 use Rattle.trail.specs.Trails.{most}
-use Rattle.trail.specs.Kinds.{Refusing, refusal_in}
+use Rattle.trail.specs.Kinds.{Refusing, refusal_of}
 
 -- the page that a call asks the disk for
 abbrev pub sought_page : Call → Option PageId
@@ -33,10 +36,18 @@ page_shown (kind.WatchAt p f) = Some p
 page_shown (kind.Refused asked why) = page_shown_by asked why
 page_shown _ = None
 
+abbrev pub page_noted : Note → Option PageId
+page_noted (note.Refused asked why) = page_shown_by asked why
+page_noted _ = None
+
+abbrev pub page_told : Event → Option PageId
+page_told (event.Entry e) = page_shown e.kind
+page_told (event.Receipt r) = page_noted r.note
+
 -- one more than the greatest page of the space that an answer shows
-abbrev pub shown_pages : List Entry → ℕ → ℕ
+abbrev pub shown_pages : List Event → ℕ → ℕ
 shown_pages [] s = 0
-shown_pages (e ∷ h) s = option_map_or (λ (p : PageId). if p.space == s then most (p.page + 1) (shown_pages h s) else shown_pages h s) (page_shown e.kind) (shown_pages h s)
+shown_pages (e ∷ past) s = option_map_or (λ (p : PageId). if p.space == s then most (p.page + 1) (shown_pages past s) else shown_pages past s) (page_told e) (shown_pages past s)
 
 -- the number of pages that a refusal tells
 abbrev pub pages_in_cause : Cause → Option ℕ
@@ -47,17 +58,17 @@ pages_in_cause _ = None
 abbrev pub pages_told_by : ℕ → Refusing → Option ℕ → Option ℕ
 pages_told_by s r before = option_map_or (λ (p : PageId). if p.space == s then option_map_or (λ pages. Some pages) (pages_in_cause r.cause) before else before) (sought_page r.call) before
 
--- the number of pages that a refusal told of the space
-abbrev pub told_pages : List Entry → ℕ → Option ℕ
+-- the number of pages that the newest such refusal told of the space
+abbrev pub told_pages : List Event → ℕ → Option ℕ
 told_pages [] s = None
-told_pages (e ∷ h) s = option_map_or (λ r. pages_told_by s r (told_pages h s)) (refusal_in e.kind) (told_pages h s)
+told_pages (e ∷ past) s = option_map_or (λ r. pages_told_by s r (told_pages past s)) (refusal_of e) (told_pages past s)
 
 -- no refusal told so few pages that this one isn't there
-abbrev pub IsInside : List Entry → PageId → Type 0
-IsInside h p = IfSome (told_pages h p.space) (λ pages. p.page < pages)
+abbrev pub IsInside : List Event → PageId → Type 0
+IsInside past p = IfSome (told_pages past p.space) (λ pages. p.page < pages)
 
--- the space has so many pages, and this one isn't there
-pub record IsOutside (h : List Entry) (p : PageId) (pages : ℕ) : Type 0 where
+-- This page isn't among so many; no refusal told another number of its space, and no answer showed a page that isn't among so many.
+pub record IsOutside (past : List Event) (p : PageId) (pages : ℕ) : Type 0 where
   pub behind : pages ≤ p.page
-  pub same : IfSome (told_pages h p.space) (λ told. told ≡ pages)
-  pub shown : shown_pages h p.space ≤ pages
+  pub same : IfSome (told_pages past p.space) (λ told. told ≡ pages)
+  pub shown : shown_pages past p.space ≤ pages

@@ -58,12 +58,7 @@ mark first (e ∷ h) = e.place
 abbrev pub most : ℕ → ℕ → ℕ
 most m n = if nat_le m n then n else m
 
--- the history up to a place
-abbrev pub at : ℕ → List Entry → List Entry
-at n [] = []
-at n (e ∷ h) = if nat_le e.place n then e ∷ h else at n h
-
--- and before it
+-- the history before a place
 abbrev pub before : ℕ → List Entry → List Entry
 before n [] = []
 before n (e ∷ h) = if nat_lt e.place n then e ∷ h else before n h

@@ -42,15 +42,15 @@ pub fn dirty_pages_are_apart()
 
 /// Where no page is dirty the log was made durable behind the last change, since no image precedes its log.
 pub fn a_clean_history_is_durable()
-    ensures { (o : Opening) (past : List Event) (durable : ℕ) → AreLawful o past → AreDurable durable (entries past)
+    ensures { (o : Opening) (sole : Option ℕ) (past : List Event) (durable : ℕ) → AreLawful o sole past → AreDurable durable (entries past)
         → dirty (entries past) ≡ [] → log_end (entries past) ≤ durable }
 {}
 
 /// In a trail that is lawful so far the dirty pages rise by their oldest LSN, so the first one has the least; and the log ends at or
 /// behind the last change of each.
 pub fn dirty_pages_rise()
-    ensures rising { (o : Opening) (past : List Event) (i j : ℕ) (d later : Dirty) → AreLawful o past → i < j
+    ensures rising { (o : Opening) (sole : Option ℕ) (past : List Event) (i j : ℕ) (d later : Dirty) → AreLawful o sole past → i < j
         → slice_get (dirty (entries past)) i ≡ Some d → slice_get (dirty (entries past)) j ≡ Some later → d.oldest < later.oldest }
-    ensures within { (o : Opening) (past : List Event) (i : ℕ) (d : Dirty) → AreLawful o past → slice_get (dirty (entries past)) i ≡ Some d
+    ensures within { (o : Opening) (sole : Option ℕ) (past : List Event) (i : ℕ) (d : Dirty) → AreLawful o sole past → slice_get (dirty (entries past)) i ≡ Some d
         → (d.oldest < d.newest) × (d.newest ≤ log_end (entries past)) }
 {}

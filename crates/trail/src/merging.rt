@@ -1,7 +1,7 @@
 //! Puts receipts behind the entries of their places.
 ghost use Rattle.std.specs.Prelude.{ℕ, List, [], ◌∷◌, ◌++◌, ◌≡◌, ◌≤◌, ◌+◌, reverse, vec_len, vec_capacity, MatchOption};
 ghost use Rattle.trail.specs.Trails.{mark, AreNumbered, AreWithin, entries, receipts};
-ghost use Rattle.trail.specs.Merging.{lists, receipts_in, told, merged, AllWithin, IsPlaced};
+ghost use Rattle.trail.specs.Merging.{lists, receipts_in, told, merged, together, AllWithin, AreByCaller, AreInOrder, IsPlaced};
 ghost use Rattle.trail.specs.Backward.{here, after, taken, rests, turned};
 ghost use Rattle.trail.specs.declared.event.Event.{Event};
 
@@ -53,10 +53,11 @@ fn take_place(place: u64, accounts: &mut Vec<Vec<Receipt>>, room: &mut Vec<Event
     }
 }
 
-/// The trail of a history and of its passes' accounts, which come in rising caller.
+/// The trail of a history and of its passes' accounts, in each of which the places rise.
 ///
-/// Each receipt comes behind the entry of its place, and before all entries where its place is `first`; receipts of one place come
-/// account by account. Takes no memory: `room` was reserved for all of them.
+/// Its entries are the history. Each receipt comes behind the entry of its place, and before all entries where its place is `first`;
+/// receipts of one place come account by account, so by caller and then number where the accounts come so. Takes no memory: `room` was
+/// reserved for all of them.
 pub fn merge(
     first: u64,
     mut history: Vec<Entry>,
@@ -69,6 +70,15 @@ pub fn merge(
     ensures events { AreNumbered first (reverse history.items)
         → AllWithin (mark first (reverse history.items)) (lists accounts.items)
         → result.events ≡ merged first history.items (lists accounts.items) }
+    ensures entries { AreNumbered first (reverse history.items)
+        → AllWithin (mark first (reverse history.items)) (lists accounts.items)
+        → entries (reverse result.events) ≡ reverse history.items }
+    ensures placed { AreNumbered first (reverse history.items)
+        → AllWithin (mark first (reverse history.items)) (lists accounts.items)
+        → IsPlaced first (reverse result.events) }
+    ensures ordered { AreNumbered first (reverse history.items)
+        → AllWithin (mark first (reverse history.items)) (lists accounts.items)
+        → AreByCaller (together (lists accounts.items)) → AreInOrder (reverse result.events) }
 {
     while let Some(entry) = history.pop() {
         take_place(entry.place, &mut accounts, &mut room);

@@ -4,7 +4,7 @@ use Rattle.trail.specs.declared.event.Call.TheVariants as call
 use Rattle.trail.specs.declared.event.Cause.TheVariants as cause
 use Rattle.trail.specs.declared.event.Kind.TheVariants as kind
 use Rattle.trail.specs.declared.event.Event.{Event}
-use Rattle.trail_rows.proofs.Shared.{page, four, pairs, single, opened, entry, receipt, word, load, fix, create, put, evict, write, refused, refused_fix, unfixed, computing, fails, Good, Breaks, Whole, Unfinished}
+use Rattle.trail_rows.proofs.Shared.{page, four, pairs, single, opened, entry, receipt, word, load, fix, create, put, evict, write, refused, refused_fix, unfixed, denied, computing, fails, Good, Breaks, Whole, Unfinished}
 
 -- page 0 was in the only frame, and is given back
 abbrev back : List Event
@@ -148,3 +148,11 @@ withdrawing_alone = search computing
 -- but without an answer a call has the entries of a resize alone
 pub load_in_undone : Unfinished pairs (entry 1 1 1 (kind.Withdraw 1) ∷ entry 2 1 1 (load 9 0) ∷ entry 3 1 1 (kind.Undo 1) ∷ [])
 load_in_undone = record { good = search computing; bad = fails (λ h. h.answered) (λ law. grind arith) }
+
+-- a resize that a device's fault refused before its first entry
+pub resize_fault : Good pairs (entry 1 1 1 (refused (call.Resize 8192 1) (cause.DiskFault 0 1)) ∷ receipt 1 1 2 (denied (call.Resize 8192 1) (cause.RedoFault 0 1)) ∷ [])
+resize_fault = search computing
+
+-- one that gives up took its withdrawal back, also where its refusal is a receipt
+pub noted_before_undo : Breaks pairs (entry 1 1 1 (kind.Withdraw 1) ∷ []) (receipt 1 1 1 (denied (call.Resize 8192 1) (cause.DiskFault 0 1)))
+noted_before_undo = record { good = search computing; bad = fails (λ h. h.legal.before) (λ law. grind arith) }

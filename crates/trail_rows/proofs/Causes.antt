@@ -210,3 +210,15 @@ not_unheld = record { good = search computing; bad = fails (λ h. h.causes) (λ 
 -- it has none, and something else is told
 pub unheld_hidden : Breaks four fixed (receipt 2 2 1 (denied (call.Read (page 0) 38 4) (cause.Busy (latched 1 1))))
 unheld_hidden = record { good = search computing; bad = fails (λ h. h.causes.1.0) (λ law. grind arith) }
+
+-- a refusal that is a receipt tells how many pages a space has, too
+pub no_page_noted : Good four (receipt 0 1 1 (denied (call.Fix (page 64) 1) (cause.NoSuchPage 64)) ∷ entry 1 2 1 (refused_fix 70 (cause.NoSuchPage 64)) ∷ [])
+no_page_noted = search computing
+
+-- another number is told behind it
+pub no_page_noted_twice : Breaks four (receipt 0 1 1 (denied (call.Fix (page 64) 1) (cause.NoSuchPage 64)) ∷ []) (entry 1 2 1 (refused_fix 70 (cause.NoSuchPage 65)))
+no_page_noted_twice = record { good = search computing; bad = fails (λ h. h.causes.1.same) (λ law. grind arith) }
+
+-- and it shows that its page is there
+pub no_page_shown_noted : Breaks four (receipt 0 1 1 (denied (call.Fix (page 63) 1) (cause.DiskFault 0 1)) ∷ []) (entry 1 2 1 (refused_fix 63 (cause.NoSuchPage 63)))
+no_page_shown_noted = record { good = search computing; bad = fails (λ h. h.causes.1.shown) (λ law. grind arith) }

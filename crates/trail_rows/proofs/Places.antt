@@ -113,3 +113,45 @@ pub resize_too_late : Breaks (pairs_left 8)
     (entry (LIMIT - 7) 1 1 (kind.Withdraw 1) ∷ entry (LIMIT - 6) 1 1 (kind.Shrink 1) ∷ [])
     (entry (LIMIT - 5) 1 1 (kind.Resize 8192 1))
 resize_too_late = record { good = search computing; bad = fails (λ h. h.causes.reached.places) (λ law. grind arith) }
+
+-- That a caller has no fix of the page stands before want of places: it is no cause then.
+pub put_unheld_spent : Breaks (left 0) [] (receipt LIMIT 1 1 (denied (call.Put (page 0) 38 (1 ∷ [])) (cause.PlacesSpent LIMIT 1)))
+put_unheld_spent = record { good = search computing; bad = fails (λ h. h.causes.held) (λ law. grind arith) }
+
+-- with a fix it is
+pub put_spent : Good (left 4)
+    (entry (LIMIT - 3) 1 1 (load 0 0) ∷ entry (LIMIT - 2) 1 1 (fix 0 0 (LIMIT - 3) 1)
+    ∷ entry (LIMIT - 1) 1 2 (kind.Check 0) ∷ entry LIMIT 1 3 (kind.Check 0)
+    ∷ receipt LIMIT 1 4 (denied (call.Put (page 0) 38 (1 ∷ [])) (cause.PlacesSpent LIMIT 1))
+    ∷ [])
+put_spent = search computing
+
+-- three chunks of two frames
+abbrev triples_left : ℕ → Opening
+triples_left places = opened (LIMIT - places) 2 24576 3
+
+-- A later round goes by the area that is open: four frames.
+pub later_round_of_area : Good (triples_left 15)
+    (entry (LIMIT - 14) 1 1 (kind.Withdraw 1)
+    ∷ entry (LIMIT - 13) 1 1 (kind.Undo 1)
+    ∷ entry (LIMIT - 12) 1 1 (refused (call.Resize 16384 2) (cause.PlacesSpent (LIMIT - 14) 15))
+    ∷ [])
+later_round_of_area = search computing
+
+-- and not by the target, which would leave two of them
+pub later_round_of_target : Breaks (triples_left 9)
+    (entry (LIMIT - 8) 1 1 (kind.Withdraw 1) ∷ entry (LIMIT - 7) 1 1 (kind.Undo 1) ∷ [])
+    (entry (LIMIT - 6) 1 1 (refused (call.Resize 16384 2) (cause.PlacesSpent (LIMIT - 8) 9)))
+later_round_of_target = record { good = search computing; bad = fails (λ h. h.causes.need_is) (λ law. grind arith) }
+
+-- a later round may be refused by a receipt too
+pub later_round_noted : Good (pairs_left 9)
+    (entry (LIMIT - 8) 1 1 (kind.Withdraw 1)
+    ∷ entry (LIMIT - 7) 1 1 (kind.Undo 1)
+    ∷ receipt (LIMIT - 7) 1 1 (denied (call.Resize 8192 2) (cause.PlacesSpent (LIMIT - 8) 9))
+    ∷ [])
+later_round_noted = search computing
+
+-- a first round is refused by an entry
+pub first_round_as_entry : Breaks (pairs_left 8) [] (entry (LIMIT - 7) 1 1 (refused (call.Resize 8192 1) (cause.PlacesSpent (LIMIT - 8) 9)))
+first_round_as_entry = record { good = search computing; bad = fails (λ h. h.legal.before.0) (λ law. law) }

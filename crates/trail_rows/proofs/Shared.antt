@@ -1,5 +1,5 @@
 -- What the rows share: openings, short names for pages, words and events, and what a row shows. The events of a row stand as a trail prints them, the oldest first.
-use Rattle.std.proofs.Common.{ℕ, List, [], ◌∷◌, ◌≡◌, ◌==◌, ◌≤◌, ◌⊎◌, if◌then◌else◌, Option, None, Some, false, IsSomeAnd, replicate, reverse, inl, inr, refl, arith, Contains}
+use Rattle.std.proofs.Common.{ℕ, List, [], ◌∷◌, ◌++◌, ◌≡◌, ◌==◌, ◌≤◌, ◌⊎◌, if◌then◌else◌, Option, None, Some, false, IsSomeAnd, replicate, reverse, inl, inr, refl, arith, Contains}
 use Rattle.std.proofs.lemmas.List.Elements.{Contains-append_right}
 use Rattle.page_ids.specs.Content.{Content}
 use Rattle.page_ids.specs.FrameWord.{packed}
@@ -25,6 +25,7 @@ use Rattle.trail.specs.Calls.{calls_of, is_answered}
 use Rattle.trail.specs.Preceding.{GotFrame}
 use Rattle.trail.specs.Legal.{IsOpen}
 use Rattle.trail.specs.Covered.{IsCoveredWrite}
+use Rattle.trail.specs.Alone.{sole_of}
 use Rattle.trail.specs.Laws.{IsLawful, AreLawful, IsLawfulTrail}
 
 -- the page of this number in space 0
@@ -164,12 +165,16 @@ fails part false_part whole = false_part (part whole)
 
 -- Each of the events is lawful where it comes.
 abbrev pub Good : Opening → List Event → Type 0
-Good o events = AreLawful o (reverse events)
+Good o events = AreLawful o (sole_of (reverse events)) (reverse events)
 
--- Each of them is, and this one behind them isn't.
-pub record Breaks (o : Opening) (events : List Event) (e : Event) : Type 0 where
-  pub good : AreLawful o (reverse events)
-  pub bad : IsLawful o (reverse events) e → ⊥
+-- Each of them is, and this one behind them isn't; other ones follow, and all together tell whether a caller is the only one.
+pub record BreaksBefore (o : Opening) (events : List Event) (e : Event) (rest : List Event) : Type 0 where
+  pub good : AreLawful o (sole_of (reverse (events ++ e ∷ rest))) (reverse events)
+  pub bad : IsLawful o (sole_of (reverse (events ++ e ∷ rest))) (reverse events) e → ⊥
+
+-- and none follows
+abbrev pub Breaks : Opening → List Event → Event → Type 0
+Breaks o events e = BreaksBefore o events e []
 
 -- The events are a whole trail.
 abbrev pub Whole : Opening → List Event → Type 0
@@ -177,5 +182,5 @@ Whole o events = IsLawfulTrail o (record { first = o.first; events = events })
 
 -- Each of them is lawful, but they are no whole trail.
 pub record Unfinished (o : Opening) (events : List Event) : Type 0 where
-  pub good : AreLawful o (reverse events)
+  pub good : Good o events
   pub bad : IsLawfulTrail o (record { first = o.first; events = events }) → ⊥

@@ -23,6 +23,7 @@ pub struct NoWatch;
 pub struct Watched {
     /// The caller's number.
     pub caller: u32,
+    /// The page that the caller waits for.
     pub page: PageId,
     /// Whether the page was read in or created since the watch was set.
     pub occurred: bool,

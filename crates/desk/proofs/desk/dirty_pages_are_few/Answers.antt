@@ -1,4 +1,4 @@
-use Rattle.desk.proofs.Dirt.{length-dirty}
+use Rattle.instance_lists.proofs.Dirt.{length-dirty}
 use Rattle.desk.proofs.desk.dirty_pages_are_few.Goals as goal
 
 pub returns : goal.returns

@@ -5,7 +5,8 @@ use Rattle.std.proofs.lemmas.List.Filters.{dedup_is}
 use Rattle.std.proofs.lemmas.List.Kept.{IsStrictlySortedBy-dedup, Contains-dedup, Contains-from_dedup}
 use Rattle.std.proofs.lemmas.List.Sorted.{Contains-permutation, IsPermutation-sym}
 use Rattle.page_ids.specs.Same.{page_cmp, same_page}
-use Rattle.dump_load.proofs.Order.{pages_total, pages_tie, pages_alike, one_page}
+use Rattle.page_ids.proofs.Basics.{pages_total, one_page}
+use Rattle.dump_load.proofs.Order.{pages_tie, pages_alike}
 use Rattle.dump_load.proofs.loads.to_load.Goals as goal
 
 pub returns : goal.returns

@@ -1,17 +1,18 @@
-use Rattle.std.proofs.Common.{◌≡◌, ◌∙◌, ◌<◌, ◌++◌, [], length, refl, sym, ap, arith}
-use Rattle.std.proofs.lemmas.List.{append-nil, take_all, drop_all}
-use Rattle.frame_book.specs.Lists.{Pair, turned}
-use Rattle.frame_book.proofs.Pairs.{pair_as, turn_more}
+use Rattle.std.proofs.Common.{◌∙◌, ap, nat_le, arith}
+use Rattle.frame_book.specs.Inside.{lists_of}
+use Rattle.frame_book.proofs.Turns.{turn_more}
+use Rattle.page_ids.specs.FrameLists as rule
+use Rattle.page_ids.specs.FrameLists.{FrameLists}
 use Rattle.frame_book.proofs.moves.withdraw_from.Goals as goal
-
-pub loop-i-init : goal.loop-i-init
-loop-i-init c =
-    let p = c.args.lists.now in
-    sym (pair_as _ _ _ _ p.room p.room (append-nil p.free) (append-nil p.withdrawn) refl)
 
 pub loop-i-preserved : goal.loop-i-preserved
 loop-i-preserved c =
-    let p = c.args.lists.now in
     let was = c.loop-i.invariant in
-    turn_more c.args.first c.loop-i.i p c.turn.new.lists (omega (arith, c.loop-i-test.true, c.free_len-i-end.ensures))
-    (λ x rest e. c.turn.ensures x rest (ap (λ (q : Pair). q.free) was ∙ e) ∙ ap (turned c.args.first x rest) was)
+    let told = c.turn.ensures in record {
+      turned = turn_more c.args.first c.loop-i.i (lists_of c.args.free.now c.args.withdrawn.now) (lists_of c.turn.new.free c.turn.new.withdrawn)
+          (omega (arith, c.loop-i-test.true, c.len-i-end.ensures))
+          (λ x rest e. told.turned x rest (ap (λ (l : FrameLists). l.free) was.turned ∙ e)
+          ∙ ap (λ (l : FrameLists). rule.given (nat_le c.args.first x) x (record { free = rest; withdrawn = l.withdrawn })) was.turned);
+      still = told.still;
+      rooms = (told.rooms.0 ∙ was.rooms.0, told.rooms.1 ∙ was.rooms.1);
+    }

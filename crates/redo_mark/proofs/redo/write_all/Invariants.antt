@@ -10,8 +10,8 @@ invariant-loop-bytes g l =
     (goal.iterator-loop-bytes g).is_finite l.bytes-iterator ×
     (l.at + length (joined l.bytes-iterator) ≡ l.fn.from + length (joined l.fn.pending)) ×
     (l.fn.from ≤ l.at) ×
-    (l.at ≤ g.R.RedoDisk.reach l.disk) ×
-    (g.R.RedoDisk.reach l.fn.disk ≤ g.R.RedoDisk.reach l.disk) ×
-    (g.R.RedoDisk.opened l.disk ≡ g.R.RedoDisk.opened l.fn.disk) ×
-    (g.R.RedoDisk.fault_count l.fn.disk ≤ g.R.RedoDisk.fault_count l.disk) ×
-    Tells (g.R.RedoDisk.told l.fn.disk) (g.R.RedoDisk.told l.disk) (IsWriting l.fn.from l.at (joined l.bytes-iterator) (joined l.fn.pending))
+    (l.at ≤ (g.R.RedoDisk.seen l.disk).reach) ×
+    ((g.R.RedoDisk.seen l.fn.disk).reach ≤ (g.R.RedoDisk.seen l.disk).reach) ×
+    ((g.R.RedoDisk.seen l.disk).opened ≡ (g.R.RedoDisk.seen l.fn.disk).opened) ×
+    ((g.R.RedoDisk.seen l.fn.disk).faults ≤ (g.R.RedoDisk.seen l.disk).faults) ×
+    Tells (g.R.RedoDisk.seen l.fn.disk).told (g.R.RedoDisk.seen l.disk).told (IsWriting l.fn.from l.at (joined l.bytes-iterator) (joined l.fn.pending))

@@ -2,7 +2,6 @@ use Rattle.std.proofs.Common.{◌≡◌, ℕ, List, Some, Result, Ok, Err, inl, 
 use Rattle.script_text.specs.Verdict.{IsScript, IsBad}
 use Rattle.script_text.specs.declared.reader.ScriptErr.{ScriptErr}
 use Rattle.script_text.specs.declared.reader.ScriptErr.TheVariants as refusal
-use Rattle.script_run.specs.Runs.{reports}
 use Rattle.script_run.proofs.Answering.{all_script, all_ends, all_bad, bad_all, long_log}
 use Rattle.script_run.proofs.runner.run.Goals as goal
 
@@ -52,8 +51,8 @@ returns-in-Ok-read_script-clause-asked g c = λ fresh.
 pub returns-in-Ok-read_script-clause-bad_script : goal.returns-in-Ok-read_script-clause-bad_script
 returns-in-Ok-read_script-clause-bad_script g c = λ three.
     let S : List ℕ → Type 0 = λ b. IsScript b c.in-Ok-read_script.plan in
-    let report = reports g.H.Redo.RedoDisk.told g.H.Redo.RedoDisk.opened g.H.Redo.RedoDisk.fault_count in
-    inr (long_log (g.S.Source.left c.args.script.now) (g.H.Shelf.log_told c.args.shelf.now) report c.run_script.result.line c.run_script.result.redo c.in-Ok-read_script.plan
+    let log_seen = g.H.Redo.RedoDisk.seen in
+    inr (long_log (g.S.Source.left c.args.script.now) (g.H.Shelf.seen c.args.shelf.now).log.told log_seen c.run_script.result.line c.run_script.result.redo c.in-Ok-read_script.plan
     (λ bytes e. let given = c.in-Ok-read_all.ensures.given bytes e in all_script bytes c.in-Ok-read_all.bytes.items given.0 c.in-Ok-read_script.plan given.2 given.3 (subst S c.as_slice.ensures.value c.in-Ok-read_script.ensures.read))
     c.run_script.ensures.line (c.run_script.ensures.long three))
 

@@ -12,30 +12,31 @@ use Rattle.page_disk.specs.Disks.{DiskSeen, pages_in}
 use Rattle.redo_mark.specs.Device.{Told}
 use Rattle.redo_mark.specs.Logs.{Seen, IsAllKept}
 use Rattle.trail.specs.declared.event.Entry.{Entry}
-use Rattle.trail.specs.declared.event.Receipt.{Receipt}
 use Rattle.trail.specs.declared.event.Event.{Event}
 use Rattle.trail.specs.declared.event.Held.{Held}
+use Rattle.trail.specs.Alone.{sole_of}
 use Rattle.trail.specs.Trails.{Opening, AreNumbered, mark, entries}
-use Rattle.trail.specs.Merging.{lists, merged, AllWithin}
+use Rattle.trail.specs.Merging.{merged, AllWithin}
 use Rattle.trail.specs.Saved.{AreDurable}
 use Rattle.trail.specs.Dirt.{dirty, log_end}
 use Rattle.desk.specs.Base.{Opened, IsBase}
 use Rattle.desk.specs.Behind.{IsOpening}
 use Rattle.frame_words.specs.Plain.{Plain, seen_of}
-use Rattle.desk.specs.Ledger.{IsOneChunk}
+use Rattle.instance_lists.specs.Ledger.{IsOneChunk}
 use Rattle.desk.specs.Logged.{IsLogged}
 use Rattle.desk.specs.State.{State}
 use Rattle.desk.specs.Steps.{IsFresh, row_in}
 use Rattle.desk.specs.Tied.{AreTied}
-use Rattle.script_text.specs.Plan.{commands_of}
-use Rattle.script_text.specs.Within.{IsInRange}
+use Rattle.script_text.specs.Plan.{Plan, first_thread, commands_of}
+use Rattle.script_text.specs.Within.{IsInRange, IsWithin}
+use Rattle.script_text.specs.declared.script.TheConstants.{MOST_CALLS}
 use Rattle.script_text.specs.declared.script.Command.{Command}
 use Rattle.script_text.specs.declared.script.Command.TheVariants as command
-use Rattle.script_text.specs.Grammar.{calls_of, calls_in}
+use Rattle.script_text.specs.Grammar.{calls_of, calls_in, all_calls}
 use Rattle.script_run.specs.Openings.{Start, opening_of, opened_of, AreFaultsWithin}
 use Rattle.script_run.specs.Work.{Working, SoFar, StandsBehind, Worked, IsReady, IsBehindIt, AreInChunk, AreApart}
 use Rattle.script_run.specs.Workers.{working}
-use Rattle.script_run.specs.Runs.{IsDiskOf, KeepsRecords, KeepsRecordsBelow, EndsBehind, reports}
+use Rattle.script_run.specs.Runs.{IsDiskOf, KeepsRecords, KeepsRecordsBelow, EndsBehind}
 use Rattle.script_run.proofs.Finished.{so_far_new, finished, Merges}
 use Rattle.script_run.proofs.Growing.{on_some}
 use Rattle.script_run.proofs.Telling.{ends_behind}
@@ -67,102 +68,112 @@ pub work-requires-clause-ready : goal.work-requires-clause-ready
 work-requires-clause-ready g c κs within =
     let seen = g.D.PageDisk.seen in
     let R : List Held → Type 0 = λ fixed. IsReady seen c.in-Ok-new.desk.state c.in_ok-frames.frames fixed in
-    subst R (sym (ap (λ (w : Working). w.fixed) c.new-worker.ensures))
+    subst R (sym (ap (λ (w : Working). w.fixed) c.new-pass.ensures))
     (ready_new seen c.in-Ok-new.desk.state c.in_ok-frames.frames c.in_ok-frames.ensures.tied c.in-Ok-new.ensures.fresh.history c.in_ok-frames.ensures.unfixed)
 
 pub work-requires-clause-new : goal.work-requires-clause-new
-work-requires-clause-new g c κs within = none_held c.new-worker.result.fixed.items (ap (λ (w : Working). w.fixed) c.new-worker.ensures)
+work-requires-clause-new g c κs within = none_held c.new-pass.result.fixed.items (ap (λ (w : Working). w.fixed) c.new-pass.ensures)
+
+-- what holds of every thread holds of the first
+of_first : (P : List Command → Type 0) (threads : List (List Command)) → P [] → AllByRecursion P threads → P (first_thread threads)
+of_first P [] none all = none
+of_first P (commands ∷ others) none all = all.0
 
 pub work-requires-clause-ranges : goal.work-requires-clause-ranges
 work-requires-clause-ranges g c κs within =
     let R : Config → List Command → Type 0 = λ config commands. AllByRecursion (IsInRange config.page) commands in
-    let there : R c.args.script.now.config (commands_of c.args.script.now) = c.requires.script.ranges in
+    let there : R c.args.script.now.config (commands_of c.args.script.now) = of_first (AllByRecursion (IsInRange c.args.script.now.config.page)) c.args.script.now.threads tt c.requires.script.ranges in
     let config : c.in-Ok-new.desk.state.config ≡ c.args.script.now.config = c.in-Ok-new.ensures.fresh.config_is ∙ c.config-config.ensures in
     subst (λ x. R x c.commands.result.now) (sym config) (subst (λ l. R c.args.script.now.config l) (sym c.commands.ensures) there)
 
-one_call : (c : Command) → calls_of c ≡ 1
-one_call (command.Fix p now) = refl
-one_call (command.Create p now) = refl
-one_call (command.Read p at len) = refl
-one_call (command.Put p at bytes) = refl
-one_call (command.Unfix p) = refl
-one_call (command.Clean bound) = refl
-one_call command.Checkpoint = refl
+one_call : (n : ℕ) (c : Command) → n ≡ 1 → calls_of n c ≡ 1
+one_call n (command.Fix p now) one = refl
+one_call n (command.Create p now) one = refl
+one_call n (command.Read p at len) one = refl
+one_call n (command.Put p at bytes) one = refl
+one_call n (command.Unfix p) one = refl
+one_call n (command.Clean bound) one = one
+one_call n command.Checkpoint one = one
 
-all_calls : (commands : List Command) → calls_in commands ≡ length commands
-all_calls [] = refl
-all_calls (c ∷ commands) =
-    let more : calls_in (c ∷ commands) ≡ calls_of c + calls_in commands = sum_by-cons calls_of c commands in
-    omega (arith, more, one_call c, all_calls commands)
+counted : (n : ℕ) (commands : List Command) → n ≡ 1 → calls_in n commands ≡ length commands
+counted n [] one = refl
+counted n (c ∷ commands) one =
+    let more : calls_in n (c ∷ commands) ≡ calls_of n c + calls_in n commands = sum_by-cons (calls_of n) c commands in
+    omega (arith, more, one_call n c one, counted n commands one)
+
+-- the first thread makes no more calls than all threads
+few_first : (n : ℕ) (threads : List (List Command)) → n ≡ 1 → all_calls n threads ≤ MOST_CALLS → length (first_thread threads) ≤ MOST_CALLS
+few_first n [] one few = omega arith
+few_first n (commands ∷ others) one few = omega (arith, few, counted n commands one, sum_by-cons (calls_in n) commands others)
+
+few_commands : (plan : Plan) (commands : List Command) → commands ≡ commands_of plan → IsWithin plan → length commands ≤ MOST_CALLS
+few_commands plan commands are within = omega (arith, ap (length {A = Command}) are, few_first plan.config.instances plan.threads within.instances within.calls)
 
 -- a script has few commands, and no entry yet
-few_places : (first n calls : ℕ) (history : List Entry) → first ≡ 0 → history ≡ [] → calls ≡ n → calls ≤ 65536 → first + 2 * length history + 32770 * n ≤ LIMIT
-few_places first n calls history start none same few = omega (arith, start, ap (length {A = Entry}) none, same, few)
+few_places : (first n : ℕ) (history : List Entry) → first ≡ 0 → history ≡ [] → n ≤ MOST_CALLS → first + 2 * length history + 32770 * n ≤ LIMIT
+few_places first n history start none few = omega (arith, start, ap (length {A = Entry}) none, few)
 
-few_numbers : (next n calls : ℕ) → next ≡ 1 → calls ≡ n → calls ≤ 65536 → next + n + 64 < 2 ^ 32
-few_numbers next n calls start same few = omega (arith, start, same, few)
+few_numbers : (next n : ℕ) → next ≡ 1 → n ≤ MOST_CALLS → next + n + 64 < 2 ^ 32
+few_numbers next n start few = omega (arith, start, few)
 
-few_more : (first n calls was is soiled : ℕ) → first ≡ 0 → was ≡ 0 → calls ≡ n → calls ≤ 65536 → is ≤ was + 16385 * n → soiled ≤ is → first + is + soiled + 1 < 2 ^ 48
-few_more first n calls was is soiled start none same few grown less = omega (arith, start, none, same, few, grown, less)
+few_more : (first n was is soiled : ℕ) → first ≡ 0 → was ≡ 0 → n ≤ MOST_CALLS → is ≤ was + 16385 * n → soiled ≤ is → first + is + soiled + 1 < 2 ^ 48
+few_more first n was is soiled start none few grown less = omega (arith, start, none, few, grown, less)
 
-few_left : (first n calls was is : ℕ) → first ≡ 0 → was ≡ 0 → calls ≡ n → calls ≤ 65536 → is ≤ was + 16385 * n → first + is + 16385 ≤ LIMIT
-few_left first n calls was is start none same few grown = omega (arith, start, none, same, few, grown)
+few_left : (first n was is : ℕ) → first ≡ 0 → was ≡ 0 → n ≤ MOST_CALLS → is ≤ was + 16385 * n → first + is + 16385 ≤ LIMIT
+few_left first n was is start none few grown = omega (arith, start, none, few, grown)
 
 pub work-requires-clause-places : goal.work-requires-clause-places
 work-requires-clause-places g c κs within =
     let fresh = c.in-Ok-new.ensures.fresh in
-    let first = ap (λ (x : Config). x.first) (fresh.config_is ∙ c.config-config.ensures) ∙ c.requires.script.config.first in
-    few_places c.in-Ok-new.desk.state.config.first (length c.commands.result.now) (calls_in (commands_of c.args.script.now)) c.in-Ok-new.desk.state.history first fresh.history
-    (all_calls (commands_of c.args.script.now) ∙ ap (length {A = Command}) (sym c.commands.ensures)) c.requires.script.calls
+    let first = ap (λ (x : Config). x.first) (fresh.config_is ∙ c.config-config.ensures) ∙ c.requires.script.first in
+    few_places c.in-Ok-new.desk.state.config.first (length c.commands.result.now) c.in-Ok-new.desk.state.history first fresh.history
+    (few_commands c.args.script.now c.commands.result.now c.commands.ensures c.requires.script)
 
 pub work-requires-clause-number : goal.work-requires-clause-number
 work-requires-clause-number g c κs within =
-    few_numbers c.new-worker.result.next (length c.commands.result.now) (calls_in (commands_of c.args.script.now)) (ap (λ (x : Working). x.next) c.new-worker.ensures)
-    (all_calls (commands_of c.args.script.now) ∙ ap (length {A = Command}) (sym c.commands.ensures)) c.requires.script.calls
+    few_numbers c.new-pass.result.next (length c.commands.result.now) (ap (λ (x : Working). x.next) c.new-pass.ensures)
+    (few_commands c.args.script.now c.commands.result.now c.commands.ensures c.requires.script)
 
 pub close-requires-clause-places : goal.close-requires-clause-places
 close-requires-clause-places g c κs within =
     let fresh = c.in-Ok-new.ensures.fresh in
     let worked = c.in_ok-work.ensures in
     let desk = c.work.new.desk.state in
-    let first = ap (λ (x : Config). x.first) (worked.left.config ∙ fresh.config_is ∙ c.config-config.ensures) ∙ c.requires.script.config.first in
-    few_more desk.config.first (length c.commands.result.now) (calls_in (commands_of c.args.script.now)) (length c.in-Ok-new.desk.state.history) (length desk.history) (length (dirty desk.history)) first
-    (ap (length {A = Entry}) fresh.history) (all_calls (commands_of c.args.script.now) ∙ ap (length {A = Command}) (sym c.commands.ensures)) c.requires.script.calls worked.grown (c.dirty_pages_are_few.ensures desk.history)
+    let first = ap (λ (x : Config). x.first) (worked.left.config ∙ fresh.config_is ∙ c.config-config.ensures) ∙ c.requires.script.first in
+    few_more desk.config.first (length c.commands.result.now) (length c.in-Ok-new.desk.state.history) (length desk.history) (length (dirty desk.history)) first
+    (ap (length {A = Entry}) fresh.history) (few_commands c.args.script.now c.commands.result.now c.commands.ensures c.requires.script) worked.grown (c.dirty_pages_are_few.ensures desk.history)
 
 pub returns-clause-run : goal.returns-clause-run
 returns-clause-run g c =
     let D = g.row.D.Denot in
     let seen = g.D.PageDisk.seen in
-    let report = reports g.R.RedoDisk.told g.R.RedoDisk.opened g.R.RedoDisk.fault_count in
+    let log_seen = g.R.RedoDisk.seen in
     let plan = c.args.script.now in
     let disk : D = c.args.disk in
     let last : D = c.end-disk.result.0 in
-    let start : Start = record { told = (seen disk).told; pages = pages_in (seen last).spaces; disk_faults = (seen disk).faults; log_faults = report.faults c.args.log } in
+    let start : Start = record { told = (seen disk).told; pages = pages_in (seen last).spaces; disk_faults = (seen disk).faults; log_faults = (log_seen c.args.log).faults } in
     let frames = c.in_ok-frames.frames in
     let desk = c.work.new.desk.state in
     let new = c.close.new.desk.state in
     let was : Seen = c.work.new.redo.seen in
     let is : Seen = c.close.new.redo.seen in
-    let w : Working = working c.work.new.self in
+    let w : Working = working c.work.new.pass in
     let history = c.end-disk.result.1.items in
-    let account = c.into_account-account.result.items in
-    let trail = c.merge-trail.result in
+    let account = c.into_account.result.items in
+    let trail = c.in_ok-trail.trail in
     let end = c.close-redo.result in
     let fault = c.in_ok-fault.fault in
     let last_is : last ≡ new.disk = c.end-disk.ensures.disk in
     let config_is : c.config-config.result.now ≡ plan.config = c.config-config.ensures in
     let F : Config → Type 0 = λ config. IsFresh c.in-Ok-new.desk.state config 0 disk in
     let fresh = subst F config_is c.in-Ok-new.ensures.fresh in
-    let pushed : c.push.new.self.items ≡ c.into_account-account.result ∷ [] = search rules in
-    let listed : lists c.push.new.self.items ≡ account ∷ [] = ap lists pushed in
-    let M : ℕ → Type 0 = λ first. AreNumbered first (reverse history) → AllWithin (mark first (reverse history)) (lists c.push.new.self.items) → trail.events ≡ merged first history (lists c.push.new.self.items) in
-    let N : List (List Receipt) → Type 0 = λ accounts. AreNumbered plan.config.first (reverse history) → AllWithin (mark plan.config.first (reverse history)) accounts → trail.events ≡ merged plan.config.first history accounts in
-    let merges = subst N listed (subst M (ap (λ (x : Config). x.first) config_is) c.merge-trail.ensures.events) in
+    let M : ℕ → Type 0 = λ first. AreNumbered first (reverse history) → AllWithin (mark first (reverse history)) (account ∷ []) → trail.events ≡ merged first history (account ∷ []) in
+    let merges = subst M (ap (λ (x : Config). x.first) config_is) c.in_ok-trail.ensures.events in
     let law : Merges = record { numbered = c.one_account_merges.ensures.numbered; within = c.one_account_merges.ensures.within; merged_is = c.one_account_merges.ensures.merged } in
     let front = c.dirty_pages_are_apart.ensures.front in
     let spaces_are : (s : ℕ) → (seen last).spaces s ≡ (seen disk).spaces s = λ s.
     ap (λ d. (seen d).spaces s) last_is ∙ c.close.ensures.spaces s ∙ c.in_ok-work.ensures.left.spaces_are s ∙ ap (λ d. (seen d).spaces s) fresh.disk_is in
-    let C : List Command → Type 0 = λ commands. (o : Opening) (begin : Start) (past : List Event) → SoFar seen o begin c.in-Ok-new.desk.state c.in-Ok.redo.seen (working c.new-worker.result) past []
+    let C : List Command → Type 0 = λ commands. (o : Opening) (begin : Start) (past : List Event) → SoFar seen o begin c.in-Ok-new.desk.state c.in-Ok.redo.seen (working c.new-pass.result) past []
     → StandsBehind seen o begin c.in-Ok-new.desk.state frames → Worked seen o begin desk was w past commands in
     let done = subst C c.commands.ensures c.in_ok-work.ensures.done in
     let opened : (o : Opening) (first : PageId → Option Content) → o.config ≡ plan.config → IsBase (seen disk).told start.pages first → IsOpening (opened_of o start first) (seen disk) =
@@ -176,19 +187,19 @@ returns-clause-run g c =
     c.close.ensures.behind o (c.in_ok-work.ensures.behind o (c.in-Ok-new.ensures.behind o (seen_of frames) opening)) in
     let worked = λ (base : Option (PageId → Option Content)) (based : IfSome base (λ first. IsBase (seen disk).told (pages_in (seen last).spaces) first)).
     let o = opening_of plan.config base in
-    let so = so_far_new seen plan.config base start c.in-Ok-new.desk.state c.in-Ok.redo.seen (working c.new-worker.result) 1 disk fresh c.new-worker.ensures (λ s. ap (λ n. unwrap_or n 0) (spaces_are s))
+    let so = so_far_new seen plan.config base start c.in-Ok-new.desk.state c.in-Ok.redo.seen (working c.new-pass.result) 1 disk fresh c.new-pass.ensures (λ s. ap (λ n. unwrap_or n 0) (spaces_are s))
     (omega arith) (omega (arith, c.in-Ok.ensures.fresh.faults)) in
     let stands : StandsBehind seen o start c.in-Ok-new.desk.state frames = on_some base _ _ (λ first e is_base. c.in-Ok-new.ensures.behind (opened_of o start first) (seen_of frames) (opened o first refl is_base)) based in
     done o start [] so stands in
     let left : desk.config.first + length desk.history + 16385 ≤ LIMIT =
-    few_left desk.config.first (length c.commands.result.now) (calls_in (commands_of plan)) (length c.in-Ok-new.desk.state.history) (length desk.history)
-    (ap (λ (x : Config). x.first) (c.in_ok-work.ensures.left.config ∙ c.in-Ok-new.ensures.fresh.config_is ∙ c.config-config.ensures) ∙ c.requires.script.config.first)
-    (ap (length {A = Entry}) c.in-Ok-new.ensures.fresh.history) (all_calls (commands_of plan) ∙ ap (length {A = Command}) (sym c.commands.ensures)) c.requires.script.calls c.in_ok-work.ensures.grown in
+    few_left desk.config.first (length c.commands.result.now) (length c.in-Ok-new.desk.state.history) (length desk.history)
+    (ap (λ (x : Config). x.first) (c.in_ok-work.ensures.left.config ∙ c.in-Ok-new.ensures.fresh.config_is ∙ c.config-config.ensures) ∙ c.requires.script.first)
+    (ap (length {A = Entry}) c.in-Ok-new.ensures.fresh.history) (few_commands c.args.script.now c.commands.result.now c.commands.ensures c.requires.script) c.in_ok-work.ensures.grown in
     let all = λ (base : Option (PageId → Option Content)) (based : IfSome base (λ first. IsBase (seen disk).told (pages_in (seen last).spaces) first)).
     finished seen (opening_of plan.config base) start desk new was is w (commands_of plan) fault history account trail front
-    (c.in_ok-work.ensures.pass ∙ ap (λ (x : Working). x.pass) c.new-worker.ensures) (worked base based)
-    c.in_ok-fault.ensures.closed c.in_ok-fault.ensures.fault c.end-disk.ensures.history c.into_account-account.ensures law
-    (c.merge-trail.ensures.first ∙ ap (λ (x : Config). x.first) config_is) merges c.close.ensures.counted c.close.ensures.later.faults left in
+    (c.in_ok-work.ensures.pass ∙ ap (λ (x : Working). x.pass) c.new-pass.ensures) (worked base based)
+    c.in_ok-fault.ensures.closed c.in_ok-fault.ensures.fault c.end-disk.ensures.history c.into_account.ensures law
+    (c.in_ok-trail.ensures.first ∙ ap (λ (x : Config). x.first) config_is) merges c.close.ensures.counted c.close.ensures.later.faults left in
     let o = opening_of plan.config None in
     let one = all None tt in
     let here : entries (reverse trail.events) ≡ new.history = one.1 in
@@ -200,14 +211,14 @@ returns-clause-run g c =
     let logged : IsLogged is (entries past) = subst H (sym here) (c.close.ensures.logged (worked None tt).so_far.logged) in
     let K : List Entry → Type 0 = λ h. log_end h ≤ is.end in
     let B : ℕ → Type 0 = λ n. EndsBehind n (entries past) in
-    let A : ℕ → Type 0 = λ n. KeepsRecords n (report.told end.disk) (entries past) in
-    let W : Option Told → ℕ → Type 0 = λ t n. IsAllKept n t is (report.told end.disk) in
-    let opening_is : c.close.new.redo.opening ≡ report.told c.args.log = c.close.ensures.opening ∙ c.in_ok-work.ensures.opening ∙ c.in-Ok.ensures.disk.1 in
+    let A : ℕ → Type 0 = λ n. KeepsRecords n (log_seen end.disk).told (entries past) in
+    let W : Option Told → ℕ → Type 0 = λ t n. IsAllKept n t is (log_seen end.disk).told in
+    let opening_is : c.close.new.redo.opening ≡ (log_seen c.args.log).told = c.close.ensures.opening ∙ c.in_ok-work.ensures.opening ∙ c.in-Ok.ensures.disk.1 in
     let lsn_is = ap (λ (x : Config). x.lsn) config_is in
-    let opened_is : g.R.RedoDisk.opened end.disk ≡ g.R.RedoDisk.opened c.args.log =
+    let opened_is : (g.R.RedoDisk.seen end.disk).opened ≡ (g.R.RedoDisk.seen c.args.log).opened =
     omega (arith, c.close-redo.ensures.opened, c.close.ensures.later.opened, c.in_ok-work.ensures.log.opened, c.in-Ok.ensures.fresh.opened, first_is, lsn_is) in
-    let all_kept : IsAllKept (g.R.RedoDisk.opened c.args.log) (report.told c.args.log) is (report.told end.disk) =
-    subst (W (report.told c.args.log)) opened_is (subst (λ t. W t (g.R.RedoDisk.opened end.disk)) opening_is c.close-redo.ensures.all) in
+    let all_kept : IsAllKept (g.R.RedoDisk.seen c.args.log).opened (log_seen c.args.log).told is (log_seen end.disk).told =
+    subst (W (log_seen c.args.log).told) opened_is (subst (λ t. W t (g.R.RedoDisk.seen end.disk).opened) opening_is c.close-redo.ensures.all) in
     record {
       trail = trail;
       disk = last;
@@ -216,7 +227,7 @@ returns-clause-run g c =
       disks_are = refl;
       log_is = refl;
       run = λ base based. (all base based).0;
-      faults = subst (λ h. L last (report.faults end.disk) h) (sym here) (subst (λ n. L last n new.history) c.close-redo.ensures.faults (subst (λ d. L d is.faults new.history) (sym last_is) one.2));
+      faults = subst (λ h. L last (log_seen end.disk).faults h) (sym here) (subst (λ n. L last n new.history) c.close-redo.ensures.faults (subst (λ d. L d is.faults new.history) (sym last_is) one.2));
       spaces_are = spaces_are;
       holds = λ base is_base.
           let o = opened_of (opening_of plan.config (Some base)) start base in
@@ -224,19 +235,19 @@ returns-clause-run g c =
           let at = disk_of seen o new (seen_of c.close.new.frames) fault stands (λ fine p inside. c.clean_disk_holds_the_values.ensures o new (seen_of c.close.new.frames) stands (c.in_ok-fault.ensures.closed.clean fine) p inside) in
           subst (λ h. IsDiskOf o.size base start.pages (seen disk).told (seen last).told fault h) (sym here) (subst (λ d. IsDiskOf o.size base start.pages (seen disk).told (seen d).told fault new.history) (sym last_is) at);
       logs = record {
-        ends = subst B (sym c.close-redo.ensures.end) (ends_behind o past is good logged (subst K (sym here) c.close.ensures.known));
+        ends = subst B (sym c.close-redo.ensures.end) (ends_behind _ o past is good logged (subst K (sym here) c.close.ensures.known));
         durable = c.close-redo.ensures.durable.1;
         marks = subst (λ n. AreDurable n (entries past)) (sym c.close-redo.ensures.durable.0) (are_durable is (entries past) logged);
         whole = λ fine. c.close-redo.ensures.durable.0 ∙ c.in_ok-fault.ensures.whole fine ∙ sym c.close-redo.ensures.end;
-        long = subst (λ n. IfSome (report.told c.args.log) (λ s. IsSomeAnd (report.told end.disk) (λ t. plan.config.lsn + length t.kept ≡ n))) (sym c.close-redo.ensures.durable.0)
-            (long_of (g.R.RedoDisk.opened c.args.log) plan.config.lsn (report.told c.args.log) (report.told end.disk) is all_kept c.requires.opened c.close-redo.ensures.kept
+        long = subst (λ n. IfSome (log_seen c.args.log).told (λ s. IsSomeAnd (log_seen end.disk).told (λ t. plan.config.lsn + length t.kept ≡ n))) (sym c.close-redo.ensures.durable.0)
+            (long_of (g.R.RedoDisk.seen c.args.log).opened plan.config.lsn (log_seen c.args.log).told (log_seen end.disk).told is all_kept c.requires.opened c.close-redo.ensures.kept
             (omega (arith, c.close-redo.ensures.opened, first_is, opened_is))
             (omega (arith, c.in-Ok.ensures.fresh.durable, c.in_ok-work.ensures.log.opened, c.in_ok-work.ensures.log.durable, c.close.ensures.later.opened, c.close.ensures.later.durable))
             (omega (arith, c.close-redo.ensures.durable.0, c.close-redo.ensures.durable.1, c.close-redo.ensures.end)));
-        extended = extended (g.R.RedoDisk.opened c.args.log) (report.told c.args.log) (report.told end.disk) is all_kept c.requires.opened;
-        settled = subst (λ n. KeepsRecordsBelow n end.durable (report.told end.disk) (entries past)) first_is (are_kept_below o past is (report.told end.disk) end.durable c.close-redo.ensures.records good logged);
+        extended = extended (g.R.RedoDisk.seen c.args.log).opened (log_seen c.args.log).told (log_seen end.disk).told is all_kept c.requires.opened;
+        settled = subst (λ n. KeepsRecordsBelow n end.durable (log_seen end.disk).told (entries past)) first_is (are_kept_below _ o past is (log_seen end.disk).told end.durable c.close-redo.ensures.records good logged);
         kept = λ fine.
-            let durable : log_end (entries past) ≤ is.durable = c.a_clean_history_is_durable.ensures o past is.durable good (are_durable is (entries past) logged) (one.0.clean fine) in
-            subst A first_is (are_kept o past is (report.told end.disk) end.durable c.close-redo.ensures.records good logged (omega (arith, durable, c.close-redo.ensures.durable.0)));
+            let durable : log_end (entries past) ≤ is.durable = c.a_clean_history_is_durable.ensures o (sole_of past) past is.durable good (are_durable is (entries past) logged) (one.0.clean fine) in
+            subst A first_is (are_kept _ o past is (log_seen end.disk).told end.durable c.close-redo.ensures.records good logged (omega (arith, durable, c.close-redo.ensures.durable.0)));
       };
     }

@@ -3,7 +3,6 @@ use Rattle.script_text.specs.Grammar.{IsRefused, Line, Takes, lines_of}
 use Rattle.script_text.specs.Verdict.{IsBadLine}
 use Rattle.script_text.specs.Left.{lines_left, left}
 use Rattle.script_text.proofs.Taking.{Seen, seen_more, seen_all, seen_bad}
-use Rattle.script_text.proofs.Kept.{settled_read}
 use Rattle.script_text.proofs.reader.read_lines.Goals as goal
 
 pub loop-rest-init : goal.loop-rest-init
@@ -40,9 +39,3 @@ returns-clause-read c =
     let lines = lines_of c.args.bytes.now in
     let none : c.loop-rest.rest ≡ None = search rules in
     seen_all _ c.loop-rest.number c.loop-rest.draft (subst (λ (ls : List (List ℕ)). Seen lines c.loop-rest.number ls c.loop-rest.draft) (ap lines_left none) c.loop-rest.invariant.seen)
-
-pub returns-clause-settled : goal.returns-clause-settled
-returns-clause-settled c =
-    let lines = lines_of c.args.bytes.now in
-    let none : c.loop-rest.rest ≡ None = search rules in
-    settled_read c.loop-rest.draft lines (seen_all _ c.loop-rest.number c.loop-rest.draft (subst (λ (ls : List (List ℕ)). Seen lines c.loop-rest.number ls c.loop-rest.draft) (ap lines_left none) c.loop-rest.invariant.seen))

@@ -9,7 +9,7 @@ use Rattle.desk.specs.Changes.{IsWriteFault, IsForced, AreMarked}
 use Rattle.desk.specs.State.{State}
 use Rattle.desk.proofs.Changing.{cleaned_tied, cleaned_behind, refused_tied, refused_behind}
 use Rattle.desk.proofs.Cleaning.{writes_count, refused_by_log, refused_by_disk, rose_is, unstopped, marked_none, marked_cleaned, marked_refused}
-use Rattle.desk.proofs.Dirt.{length-dirty}
+use Rattle.instance_lists.proofs.Dirt.{length-dirty}
 use Rattle.desk.proofs.desk.Desk.clean_at.Goals as goal
 
 pub append-requires-clause-places : goal.append-requires-clause-places

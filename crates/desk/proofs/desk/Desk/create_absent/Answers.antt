@@ -1,4 +1,4 @@
-use Rattle.std.proofs.Common.{◌≡◌, ◌<◌, ◌≤◌, ℕ, List, length, refl, ap, ◌∙◌, sym, subst, arith}
+use Rattle.std.proofs.Common.{◌≡◌, ◌<◌, ◌≤◌, ◌+◌, ℕ, List, length, refl, ap, ◌∙◌, sym, subst, arith, inl}
 use Rattle.page_ids.specs.declared.config.Config.{Config}
 use Rattle.redo_mark.specs.Logs as log
 use Rattle.redo_mark.specs.Logs.{Holds}
@@ -7,44 +7,31 @@ use Rattle.trail.specs.declared.event.Call.TheVariants as call
 use Rattle.trail.specs.declared.event.Cause.TheVariants as cause
 use Rattle.frame_words.specs.Appends.{FitsRefusal}
 use Rattle.frame_words.specs.Rows.{Row}
-use Rattle.desk.specs.Creating.{IsCreateRefusal, IsUnused, LeavesAll}
-use Rattle.desk.specs.Loads.{MayFix}
+use Rattle.desk.specs.Answers.{Uncreated}
 use Rattle.desk.specs.Logged.{create_change}
+use Rattle.desk.specs.Moments.{Keeps, moment, moment_of, log_seen}
 use Rattle.desk.specs.Victims.{IsHad}
 use Rattle.desk.specs.declared.calls.CreateErr.{CreateErr}
-use Rattle.desk.proofs.Creating.{length-create, unhad_create, unforced_unused, had_leaves, spent_leaves, made_leaves}
-use Rattle.desk.proofs.Fixing.{had_clean, still_may, still_inside}
+use Rattle.desk.proofs.Creating.{length-create}
 use Rattle.desk.proofs.Loading.{inside_below}
+use Rattle.desk.proofs.Moments.{keeps_none, keeps_most, keeps_on, keeps_log, take_on, places_on, uses_none, uses_more, unhad_created, device_used}
 use Rattle.desk.proofs.PassedWords.{each_some, at_some}
 use Rattle.desk.proofs.desk.Desk.create_absent.Goals as goal
 
-pub make-requires-clause-places : goal.make-requires-clause-places
-make-requires-clause-places g c = λ κs within.
-    let first : c.have_frame.new.self.state.config.first ≡ c.args.self.now.state.config.first = ap (λ (x : Config). x.first) c.have_frame.ensures.desk.config in
-    let places = c.requires.places in
-    let count = c.have_frame.ensures.count in
-    omega (arith, first, places, count)
+pub make-requires-clause-entries : goal.make-requires-clause-entries
+make-requires-clause-entries g c = λ κs within.
+    let room = c.in-Ok-have_frame.ensures.room in
+    let had = c.requires.entries.room in
+    record { places = places_on g.D.PageDisk.seen 2 1 _ _ c.have_frame.ensures.keeps c.requires.entries.places; room = omega (arith, room, had) }
 
-pub make-requires-clause-inside : goal.make-requires-clause-inside
-make-requires-clause-inside g c = λ κs within.
-    still_inside g.D.PageDisk.seen c.args.self.now.state.disk c.have_frame.new.self.state.disk c.args.page c.have_frame.ensures.desk.spaces_are c.requires.inside
-
-pub make-requires-clause-clean : goal.make-requires-clause-clean
-make-requires-clause-clean g c = λ κs within.
-    had_clean c.args.self.now.state c.have_frame.new.self.state (g.F.Frames.seen c.args.frames.now).rows (g.F.Frames.seen c.have_frame.new.frames).rows c.args.by c.in-Ok-have_frame.frame c.args.page
-    c.in-Ok-have_frame.ensures.had c.requires.clean
-
-pub make-requires-clause-caller : goal.make-requires-clause-caller
-make-requires-clause-caller g c = λ κs within.
-    let leaves = c.have_frame.ensures.desk in
-    still_may (g.F.Frames.seen c.args.frames.now) (g.F.Frames.seen c.have_frame.new.frames) c.args.self.now.state c.have_frame.new.self.state c.args.by c.args.page
-    c.in-Ok-have_frame.ensures.turn leaves.config leaves.instance c.requires.caller
+pub make-requires-clause-asked : goal.make-requires-clause-asked
+make-requires-clause-asked g c = λ κs within. take_on g.D.PageDisk.seen 2 _ _ c.args.by c.args.page c.in-Ok-have_frame.frame c.in-Ok-have_frame.ensures.answers c.have_frame.ensures.keeps c.requires.asked
 
 pub make-requires-clause-fix : goal.make-requires-clause-fix
 make-requires-clause-fix g c = λ κs within.
     let f = c.in-Ok-have_frame.frame in
-    let below : f < c.args.self.now.state.config.frames = subst (λ (x : Config). f < x.frames) c.have_frame.ensures.desk.config c.in-Ok-have_frame.ensures.below in
-    let whole = c.requires.tied.whole in
+    let below : f < c.args.self.now.state.config.frames = subst (λ (x : Config). f < x.frames) c.have_frame.ensures.keeps.desk.config c.in-Ok-have_frame.ensures.answers.next.below in
+    let whole = c.requires.ready.rest.tied.whole in
     let inside : f < length (g.F.Frames.seen c.args.frames.now).rows = omega (arith, below, whole) in
     let first = c.requires.fixes f inside in
     let next = c.have_frame.ensures.fixes f in
@@ -52,153 +39,140 @@ make-requires-clause-fix g c = λ κs within.
 
 pub make-requires-clause-span : goal.make-requires-clause-span
 make-requires-clause-span g c = λ κs within.
-    let known = c.have_frame.ensures.log.known c.requires.known in
+    let known = c.have_frame.ensures.keeps.known c.requires.ready.known in
     let span = c.in-Ok-append.ensures.span in
     let size : length c.in-Ok.draft ≡ 13 = ap (length {A = ℕ}) c.in-Ok.ensures ∙ length-create c.args.page in
-    (omega (arith, known, span.start), omega (arith, span.end, size))
+    record { start = omega (arith, known, span.start); end = omega (arith, span.end, size) }
 
-pub refuse-requires-clause-places : goal.refuse-requires-clause-places
-refuse-requires-clause-places g c = λ κs within.
-    let first : c.have_frame.new.self.state.config.first ≡ c.args.self.now.state.config.first = ap (λ (x : Config). x.first) c.have_frame.ensures.desk.config in
-    let places = c.requires.places in
-    let count = c.have_frame.ensures.count in
-    omega (arith, first, places, count)
+pub refuse-requires-clause-entries : goal.refuse-requires-clause-entries
+refuse-requires-clause-entries g c = λ κs within.
+    let room = c.in-Ok-have_frame.ensures.room in
+    let had = c.requires.entries.room in
+    record { places = places_on g.D.PageDisk.seen 2 1 _ _ c.have_frame.ensures.keeps c.requires.entries.places; room = omega (arith, room, had) }
 
-pub refuse-requires-clause-turn : goal.refuse-requires-clause-turn
-refuse-requires-clause-turn g c = λ κs within.
+pub refuse-requires-clause-asked : goal.refuse-requires-clause-asked
+refuse-requires-clause-asked g c = λ κs within.
     let t = g.F.Frames.seen c.have_frame.new.frames in
-    let leaves = c.have_frame.ensures.desk in
-    let may : MayFix t c.have_frame.new.self.state c.args.by c.args.page = still_may (g.F.Frames.seen c.args.frames.now) t c.args.self.now.state c.have_frame.new.self.state c.args.by c.args.page
-    c.in-Ok-have_frame.ensures.turn leaves.config leaves.instance c.requires.caller in
-    may.turn
-
-pub refuse-requires-clause-own : goal.refuse-requires-clause-own
-refuse-requires-clause-own g c = λ κs within.
-    let t = g.F.Frames.seen c.have_frame.new.frames in
-    let leaves = c.have_frame.ensures.desk in
-    let may : MayFix t c.have_frame.new.self.state c.args.by c.args.page = still_may (g.F.Frames.seen c.args.frames.now) t c.args.self.now.state c.have_frame.new.self.state c.args.by c.args.page
-    c.in-Ok-have_frame.ensures.turn leaves.config leaves.instance c.requires.caller in
-    may.own
-
-pub refuse-requires-clause-may : goal.refuse-requires-clause-may
-refuse-requires-clause-may g c = λ κs within.
-    let t = g.F.Frames.seen c.have_frame.new.frames in
-    let leaves = c.have_frame.ensures.desk in
-    let may : MayFix t c.have_frame.new.self.state c.args.by c.args.page = still_may (g.F.Frames.seen c.args.frames.now) t c.args.self.now.state c.have_frame.new.self.state c.args.by c.args.page
-    c.in-Ok-have_frame.ensures.turn leaves.config leaves.instance c.requires.caller in
+    let may = take_on g.D.PageDisk.seen 2 _ _ c.args.by c.args.page c.in-Ok-have_frame.frame c.in-Ok-have_frame.ensures.answers c.have_frame.ensures.keeps c.requires.asked in
     record {
-      words = refl;
-      fits = each_some t.opened (λ o. FitsRefusal o (call.Create c.args.page c.args.now) (cause.LogSpent c.in-Err-append.end)) (λ o is. λ takes. at_some t.opened (λ x. length x < 64) o may.few is);
+      turn = may.caller.turn;
+      own = may.caller.own;
+      for_page = refl;
+      may = record {
+        words = refl;
+        fits = each_some t.opened (λ o. FitsRefusal o (call.Create c.args.page c.args.now) (cause.LogSpent c.in-Err-append.end)) (λ o is. λ takes. at_some t.opened (λ x. length x < 64) o may.caller.few is);
+      };
     }
 
-pub returns-in-Err-clause-refused : goal.returns-in-Err-clause-refused
-returns-in-Err-clause-refused g c = λ held few.
-    let P = g.D.PageDisk in
-    let old = c.args.self.now.state in
-    let new = c.have_frame.new.self.state in
-    let rows = (g.F.Frames.seen c.args.frames.now).rows in
-    let now = (g.F.Frames.seen c.have_frame.new.frames).rows in
-    let was = c.args.redo.now.seen in
-    let is = c.have_frame.new.redo.seen in
-    subst (λ (e : CreateErr). IsCreateRefusal P.seen old new rows now c.args.by held c.args.page c.args.now was.durable was.end is.end was.faults is.faults e) (sym c.create_err.ensures)
-    (unhad_create P.seen old new rows now c.args.by held c.args.page c.args.now was.durable was.end is.end was.faults is.faults c.in-Err.error
-    (inside_below (P.seen old.disk).spaces c.args.page c.requires.inside) few c.requires.absent c.in-Err.ensures.unmoved c.in-Err.ensures.refused)
+pub returns-in_default-clause-keeps : goal.returns-in_default-clause-keeps
+returns-in_default-clause-keeps g c =
+    let m = moment_of g.F.Frames.seen g.R.RedoDisk.seen c.args.self.now c.args.frames.now c.args.redo.now in
+    keeps_most g.D.PageDisk.seen 0 3 m m (omega arith) (keeps_none g.D.PageDisk.seen m c.requires.ready.rest)
 
-pub returns-in-Err-clause-unused : goal.returns-in-Err-clause-unused
-returns-in-Err-clause-unused g c =
-    subst (λ (e : CreateErr). IsUnused c.args.redo.now c.have_frame.new.redo e) (sym c.create_err.ensures) (unforced_unused c.args.redo.now c.have_frame.new.redo c.in-Err.error c.in-Err.ensures.unforced)
+pub returns-in_default-clause-answers : goal.returns-in_default-clause-answers
+returns-in_default-clause-answers g c = λ held few.
+    let m = moment_of g.F.Frames.seen g.R.RedoDisk.seen c.args.self.now c.args.frames.now c.args.redo.now in
+    record { refused = (refl, refl); unused = refl; log = uses_none m; covered = device_used m m.log m.log refl refl (inl refl) }
 
-pub returns-in-Err-clause-leaves : goal.returns-in-Err-clause-leaves
-returns-in-Err-clause-leaves g c =
-    let P = g.D.PageDisk in
-    let had = c.have_frame.ensures in
-    had_leaves P.seen g.R.RedoDisk.told c.args.self.now.state c.have_frame.new.self.state (g.F.Frames.seen c.args.frames.now) (g.F.Frames.seen c.have_frame.new.frames)
-    c.args.redo.now c.have_frame.new.redo had.count had.tied had.settled had.desk had.log had.covered had.behind
+pub returns-in-Err-clause-keeps : goal.returns-in-Err-clause-keeps
+returns-in-Err-clause-keeps g c = keeps_most g.D.PageDisk.seen 2 3 _ _ (omega arith) c.have_frame.ensures.keeps
 
-pub returns-in-Ok-append-clause-created : goal.returns-in-Ok-append-clause-created
-returns-in-Ok-append-clause-created g c =
-    let old = c.args.self.now.state in
-    let had = c.have_frame.new.self.state in
-    let rows = (g.F.Frames.seen c.args.frames.now).rows in
-    let cleared = (g.F.Frames.seen c.have_frame.new.frames).rows in
-    let later = c.have_frame.ensures.log.later in
-    let span = c.in-Ok-append.ensures.span in
-    let size : length c.in-Ok.draft ≡ 13 = ap (length {A = ℕ}) c.in-Ok.ensures ∙ length-create c.args.page in
-    record {
-      absent = c.requires.absent;
-      had = had;
-      cleared = cleared;
-      frame_is = subst (λ (f : ℕ). IsHad old had rows cleared c.args.by f) (sym c.make.ensures.frame) c.in-Ok-have_frame.ensures.had;
-      start = c.in-Ok-append.span.start;
-      known = (omega (arith, later.end, span.start), omega (arith, span.end, span.within, size));
-      made = c.make.ensures.made;
-    }
+pub returns-in-Err-clause-answers : goal.returns-in-Err-clause-answers
+returns-in-Err-clause-answers g c = λ held few.
+    let m = moment_of g.F.Frames.seen g.R.RedoDisk.seen c.args.self.now c.args.frames.now c.args.redo.now in
+    let n = moment_of g.F.Frames.seen g.R.RedoDisk.seen c.have_frame.new.self c.have_frame.new.frames c.have_frame.new.redo in
+    subst (λ (e : CreateErr). Uncreated g.D.PageDisk.seen m n c.args.by held c.args.page c.args.now e) (sym c.create_err.ensures)
+    (unhad_created g.D.PageDisk.seen m n c.args.by held c.args.page c.args.now c.in-Err.error few c.requires.asked c.in-Err.ensures.answers)
 
-pub returns-in-Ok-append-clause-full : goal.returns-in-Ok-append-clause-full
-returns-in-Ok-append-clause-full g c = λ beyond.
-    let later = c.have_frame.ensures.log.later in
-    let span = c.in-Ok-append.ensures.span in
-    let size : length c.in-Ok.draft ≡ 13 = ap (length {A = ℕ}) c.in-Ok.ensures ∙ length-create c.args.page in
-    absurd (omega (arith, beyond, later.end, span.start, span.end, span.within, span.limit, size))
-
-pub returns-in-Ok-append-clause-leaves : goal.returns-in-Ok-append-clause-leaves
-returns-in-Ok-append-clause-leaves g c =
-    let P = g.D.PageDisk in
-    let had = c.have_frame.ensures in
-    let old = c.args.self.now.state in
-    let mid = c.have_frame.new.self.state in
-    let s = g.F.Frames.seen c.args.frames.now in
-    let t = g.F.Frames.seen c.have_frame.new.frames in
+pub returns-in-Ok-append-clause-keeps : goal.returns-in-Ok-append-clause-keeps
+returns-in-Ok-append-clause-keeps g c =
+    let S = g.D.PageDisk.seen in
     let span = c.in-Ok-append.span in
     let put = c.in-Ok-append.ensures in
-    let is = c.append.new.self in
-    let size : length c.in-Ok.draft ≡ 13 = ap (length {A = ℕ}) c.in-Ok.ensures ∙ length-create c.args.page in
-    let holds : Holds is.seen (record_of (create_change c.args.page) span.start) span.start =
-    subst (λ (d : List ℕ). Holds is.seen (sealed d span.start) span.start) c.in-Ok.ensures put.record in
-    let leaves = had_leaves P.seen g.R.RedoDisk.told old mid s t c.args.redo.now c.have_frame.new.redo had.count had.tied had.settled had.desk had.log had.covered had.behind in
-    made_leaves P.seen g.R.RedoDisk.told old mid c.make.new.self.state s t (g.F.Frames.seen c.make.new.frames) c.args.redo.now c.have_frame.new.redo is c.args.by c.args.page c.args.now span.start c.make.result
-    had.count leaves c.in-Ok-have_frame.ensures.turn.base c.make.ensures.made c.make.ensures.tied c.make.ensures.settled c.make.ensures.left c.append.ensures.later c.append.ensures.disk c.append.ensures.mark c.append.ensures.kept holds
-    (omega (arith, put.span.end, put.span.within, size)) c.make.ensures.behind
+    let log = c.append.ensures in
+    let l = log_seen g.R.RedoDisk.seen c.append.new.self in
+    let old = c.have_frame.new.self.state in
+    let t = g.F.Frames.seen c.have_frame.new.frames in
+    let holds : Holds l.seen (record_of (create_change c.args.page) span.start) span.start = subst (λ (d : List ℕ). Holds l.seen (sealed d span.start) span.start) c.in-Ok.ensures put.record in
+    keeps_on S 2 1 _ _ _ c.have_frame.ensures.keeps
+    (keeps_on S 0 1 _ (moment old t l) _ (keeps_log S old t _ l c.have_frame.ensures.keeps.rest log.later log.disk.1 log.kept)
+    (c.make.ensures.keeps l holds (omega (arith, put.span.within))))
 
-pub returns-in-Err-append-clause-refused : goal.returns-in-Err-append-clause-refused
-returns-in-Err-append-clause-refused g c = λ held few.
-    let P = g.D.PageDisk in
+pub returns-in-Ok-append-clause-answers : goal.returns-in-Ok-append-clause-answers
+returns-in-Ok-append-clause-answers g c = λ held few.
+    let m = moment_of g.F.Frames.seen g.R.RedoDisk.seen c.args.self.now c.args.frames.now c.args.redo.now in
+    let n = moment c.make.new.self.state (g.F.Frames.seen c.make.new.frames) (log_seen g.R.RedoDisk.seen c.append.new.self) in
     let old = c.args.self.now.state in
     let had = c.have_frame.new.self.state in
     let rows = (g.F.Frames.seen c.args.frames.now).rows in
     let cleared = (g.F.Frames.seen c.have_frame.new.frames).rows in
-    let later = c.have_frame.ensures.log.later in
+    let later = c.have_frame.ensures.keeps.later in
+    let span = c.in-Ok-append.ensures.span in
+    let answers = c.in-Ok-have_frame.ensures.answers in
+    let mid = log_seen g.R.RedoDisk.seen c.have_frame.new.redo in
+    let size : length c.in-Ok.draft ≡ 13 = ap (length {A = ℕ}) c.in-Ok.ensures ∙ length-create c.args.page in
+    record {
+      made = record {
+        absent = c.requires.asked.absent;
+        had = had;
+        cleared = cleared;
+        frame_is = subst (λ (f : ℕ). IsHad old had rows cleared c.args.by f) (sym c.make.ensures.frame) answers.had;
+        start = c.in-Ok-append.span.start;
+        known = (omega (arith, later.end, span.start), omega (arith, span.end, span.within, size));
+        made = c.make.ensures.made;
+      };
+      inside = inside_below (g.D.PageDisk.seen old.disk).spaces c.args.page c.requires.asked.inside;
+      few = few;
+      fits = omega (arith, later.end, span.start, span.end, span.within, span.limit, size);
+      log = uses_more m (moment had (g.F.Frames.seen c.have_frame.new.frames) mid) n c.args.by _ (λ mark. tt) c.make.ensures.made.entry c.append.ensures.mark answers.sought.log;
+      covered = device_used m mid n.log (ap (λ (d : g.row.R.Denot). (g.R.RedoDisk.seen d).told) c.append.ensures.disk.0) c.append.ensures.mark answers.sought.covered;
+    }
+
+pub returns-in-Err-append-clause-keeps : goal.returns-in-Err-append-clause-keeps
+returns-in-Err-append-clause-keeps g c =
+    let S = g.D.PageDisk.seen in
+    let device = g.R.RedoDisk.seen in
     let spent = c.in-Err-append.ensures.spent in
     let same_end : c.in-Err-append.field-0.end ≡ c.in-Err-append.end = c.in-Err-append.end-is in
-    let size : length c.in-Ok.draft ≡ 13 = ap (length {A = ℕ}) c.in-Ok.ensures ∙ length-create c.args.page in (
-      inside_below (P.seen old.disk).spaces c.args.page c.requires.inside,
-      few,
-      record {
-        absent = c.requires.absent;
-        had = had;
-        frame = c.in-Ok-have_frame.frame;
-        frame_is = subst (λ (r : List Row). IsHad old had rows r c.args.by c.in-Ok-have_frame.frame) (sym c.refuse.ensures.unmoved) c.in-Ok-have_frame.ensures.had;
-        known = (omega (arith, later.end, spent.0, same_end), omega (arith, spent.1, same_end));
-        beyond = omega (arith, spent.2, size, same_end);
-        entry = c.refuse.ensures.appended;
-        disk = c.refuse.ensures.disk;
-      },
-    )
-
-pub returns-in-Err-append-clause-leaves : goal.returns-in-Err-append-clause-leaves
-returns-in-Err-append-clause-leaves g c =
-    let P = g.D.PageDisk in
-    let had = c.have_frame.ensures in
-    let old = c.args.self.now.state in
-    let mid = c.have_frame.new.self.state in
-    let s = g.F.Frames.seen c.args.frames.now in
+    let m = moment_of g.F.Frames.seen device c.args.self.now c.args.frames.now c.args.redo.now in
     let t = g.F.Frames.seen c.have_frame.new.frames in
-    let u = g.F.Frames.seen c.refuse.new.frames in
-    let was = c.args.redo.now in
-    let same = c.in-Err-append.ensures.err in
+    let had = c.have_frame.new.self.state in
+    keeps_on S 2 1 m (moment had t (log_seen device c.append.new.self)) _
+    (subst (λ (x : log.State g.row.R.Denot). Keeps S 2 m (moment had t (log_seen device x))) (sym c.in-Err-append.ensures.err) c.have_frame.ensures.keeps)
+    (c.refuse.ensures.keeps (log_seen device c.append.new.self) (omega (arith, spent.1, same_end)))
+
+pub returns-in-Err-append-clause-answers : goal.returns-in-Err-append-clause-answers
+returns-in-Err-append-clause-answers g c = λ held few.
+    let m = moment_of g.F.Frames.seen g.R.RedoDisk.seen c.args.self.now c.args.frames.now c.args.redo.now in
+    let n = moment c.refuse.new.self.state (g.F.Frames.seen c.refuse.new.frames) (log_seen g.R.RedoDisk.seen c.append.new.self) in
+    let device = g.R.RedoDisk.seen in
+    let old = c.args.self.now.state in
+    let had = c.have_frame.new.self.state in
+    let rows = (g.F.Frames.seen c.args.frames.now).rows in
+    let later = c.have_frame.ensures.keeps.later in
     let spent = c.in-Err-append.ensures.spent in
-    let known : c.in-Err-append.field-0.end ≤ c.have_frame.new.redo.seen.end = subst (λ (x : log.State g.row.R.Denot). c.in-Err-append.field-0.end ≤ x.seen.end) same spent.1 in
-    let leaves = had_leaves P.seen g.R.RedoDisk.told old mid s t was c.have_frame.new.redo had.count had.tied had.settled had.desk had.log had.covered had.behind in
-    subst (λ (x : log.State g.row.R.Denot). LeavesAll P.seen g.R.RedoDisk.told old c.refuse.new.self.state s u was x) (sym same)
-    (spent_leaves P.seen g.R.RedoDisk.told old mid c.refuse.new.self.state s t u was c.have_frame.new.redo c.args.by (call.Create c.args.page c.args.now) c.in-Err-append.field-0.end
-    had.count leaves c.refuse.ensures.appended c.refuse.ensures.disk known c.refuse.ensures.unmoved c.refuse.ensures.tied c.refuse.ensures.behind)
+    let same = c.in-Err-append.ensures.err in
+    let answers = c.in-Ok-have_frame.ensures.answers in
+    let r = c.refuse.ensures.refused in
+    let mid = log_seen device c.have_frame.new.redo in
+    let same_end : c.in-Err-append.field-0.end ≡ c.in-Err-append.end = c.in-Err-append.end-is in
+    let size : length c.in-Ok.draft ≡ 13 = ap (length {A = ℕ}) c.in-Ok.ensures ∙ length-create c.args.page in
+    record {
+      refused = (
+        inside_below (g.D.PageDisk.seen old.disk).spaces c.args.page c.requires.asked.inside,
+        few,
+        record {
+          absent = c.requires.asked.absent;
+          had = had;
+          frame = c.in-Ok-have_frame.frame;
+          frame_is = subst (λ (r : List Row). IsHad old had rows r c.args.by c.in-Ok-have_frame.frame) (sym r.unmoved) answers.had;
+          known = (omega (arith, later.end, spent.0, same_end), omega (arith, spent.1, same_end));
+          beyond = omega (arith, spent.2, size, same_end);
+          entry = r.entry;
+          disk = r.disk;
+        },
+      );
+      unused = tt;
+      log = uses_more m (moment had (g.F.Frames.seen c.have_frame.new.frames) mid) n c.args.by _ (λ mark. tt) r.entry (ap (λ (x : log.State g.row.R.Denot). x.seen.durable) same) answers.sought.log;
+      covered = device_used m mid n.log (ap (λ (x : log.State g.row.R.Denot). (device x.disk).told) same) (ap (λ (x : log.State g.row.R.Denot). x.seen.durable) same) answers.sought.covered;
+    }

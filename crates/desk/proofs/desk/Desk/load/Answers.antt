@@ -10,95 +10,99 @@ use Rattle.frame_words.specs.Rows.{published_row}
 use Rattle.frame_words.specs.Seen.{FramesSeen, row_at}
 use Rattle.desk.specs.Ledger.{entry_behind}
 use Rattle.desk.specs.Loads.{IsOneMore}
-use Rattle.desk.specs.Victims.{AreSettled}
+use Rattle.desk.specs.Moments.{moment}
 use Rattle.desk.proofs.Fixing.{one_more, leaves_told, settled_loaded}
+use Rattle.desk.proofs.Moments.{keeps_more, keeps_on, keeps_read}
 use Rattle.desk.proofs.Rows.{loaded_rows}
 use Rattle.desk.proofs.Tying.{below_rows}
 use Rattle.desk.proofs.desk.Desk.load.Goals as goal
 
-pub returns-in-Ok-clause-ok : goal.returns-in-Ok-clause-ok
-returns-in-Ok-clause-ok g c =
+pub returns-in-Ok-clause-loaded : goal.returns-in-Ok-clause-loaded
+returns-in-Ok-clause-loaded g c =
     let old = c.args.self.now.state in
+    let mid = c.read_in.new.self.state in
     let s = g.F.Frames.seen c.args.frames.now in
     let t = g.F.Frames.seen c.read_in.new.frames in
     let f = c.args.frame in
     let read = c.in-Ok.ensures.ok in
-    let first : c.read_in.new.self.state.config.first ≡ old.config.first = ap (λ (x : Config). x.first) c.read_in.ensures.config in
+    let first : mid.config.first ≡ old.config.first = ap (λ (x : Config). x.first) c.read_in.ensures.config in
     let load = kind.Load c.args.page f in
+    let next = c.requires.next in
+    let a = c.take_in.ensures in
     record {
-      absent = c.requires.absent;
-      below = c.requires.below;
-      fresh = c.requires.vacant;
-      frame = c.requires.next;
-      entry = record {
-        config = c.take_in.ensures.appended.config ∙ c.read_in.ensures.config;
-        instance = c.take_in.ensures.appended.instance ∙ c.read_in.ensures.instance;
-        history = c.take_in.ensures.appended.history
-            ∙ ap (λ n. entry_behind n c.read_in.new.self.state.history c.args.by load ∷ c.read_in.new.self.state.history) first
-            ∙ ap (λ h. entry_behind old.config.first h c.args.by load ∷ h) c.read_in.ensures.history;
+      loaded = record {
+        absent = c.requires.asked.absent;
+        below = next.below;
+        fresh = next.vacant;
+        frame = next.front;
+        entry = record {
+          config = a.appended.config ∙ c.read_in.ensures.config;
+          instance = a.appended.instance ∙ c.read_in.ensures.instance;
+          history = a.appended.history
+              ∙ ap (λ n. entry_behind n mid.history c.args.by load ∷ mid.history) first
+              ∙ ap (λ h. entry_behind old.config.first h c.args.by load ∷ h) c.read_in.ensures.history;
+        };
+        content = read.content;
+        read = read.read;
+        rows_are = a.rows
+            ∙ ap (λ n. set t.rows f (published_row (row_at t f) c.args.page (mark n mid.history + 1))) first
+            ∙ ap (λ h. set t.rows f (published_row (row_at t f) c.args.page (mark old.config.first h + 1))) c.read_in.ensures.history
+            ∙ loaded_rows s t f c.args.page (mark old.config.first old.history + 1) read.content (below_rows g.D.PageDisk.seen s old f c.requires.rest.tied next.below) read.seen;
       };
-      content = read.content;
-      read = read.read;
-      rows_are = c.take_in.ensures.rows
-          ∙ ap (λ n. set t.rows f (published_row (row_at t f) c.args.page (mark n c.read_in.new.self.state.history + 1))) first
-          ∙ ap (λ h. set t.rows f (published_row (row_at t f) c.args.page (mark old.config.first h + 1))) c.read_in.ensures.history
-          ∙ loaded_rows s t f c.args.page (mark old.config.first old.history + 1) read.content (below_rows g.D.PageDisk.seen s old f c.requires.tied c.requires.below) read.seen;
+      caller = a.caller;
     }
 
-pub returns-in-Ok-clause-behind : goal.returns-in-Ok-clause-behind
-returns-in-Ok-clause-behind g c = λ o based before.
-    c.take_in.ensures.behind o (subst (λ (x : FramesSeen). IfSome x.base (λ base. base ≡ o.base)) (sym c.in-Ok.ensures.ok.seen) based) (c.read_in.ensures.behind o before)
+pub returns-in-Ok-clause-more : goal.returns-in-Ok-clause-more
+returns-in-Ok-clause-more g c = one_more c.args.self.now.state c.take_in.new.self.state c.args.by (kind.Load c.args.page c.args.frame) (λ x. tt) (λ n. refl) (λ m. tt) (returns-in-Ok-clause-loaded g c).loaded.entry
 
-pub returns-in-Err-DiskFault-clause-behind : goal.returns-in-Err-DiskFault-clause-behind
-returns-in-Err-DiskFault-clause-behind g c = λ o based before. c.refuse.ensures.behind o (c.read_in.ensures.behind o before)
-
-pub returns-in-Err-BadPage-clause-behind : goal.returns-in-Err-BadPage-clause-behind
-returns-in-Err-BadPage-clause-behind g c = λ o based before. c.refuse-in-Err-BadPage.ensures.behind o (c.read_in.ensures.behind o before)
-
-pub returns-in-Ok-clause-settled : goal.returns-in-Ok-clause-settled
-returns-in-Ok-clause-settled g c =
+pub returns-in-Ok-clause-keeps : goal.returns-in-Ok-clause-keeps
+returns-in-Ok-clause-keeps g c = λ l.
     let P = g.D.PageDisk in
     let old = c.args.self.now.state in
+    let new = c.take_in.new.self.state in
     let s = g.F.Frames.seen c.args.frames.now in
+    let u = g.F.Frames.seen c.take_in.new.frames in
     let f = c.args.frame in
-    let loaded = returns-in-Ok-clause-ok g c in
-    settled_loaded s.rows (g.F.Frames.seen c.take_in.new.frames).rows f c.args.page loaded.content (mark old.config.first old.history + 1)
-    (c.requires.tied.rows f (below_rows P.seen s old f c.requires.tied c.requires.below)).unlatched loaded.rows_are c.requires.settled
-
-pub returns-in-Ok-clause-more : goal.returns-in-Ok-clause-more
-returns-in-Ok-clause-more g c = one_more c.args.self.now.state c.take_in.new.self.state c.args.by (kind.Load c.args.page c.args.frame) (λ x. tt) (λ n. refl) (λ m. tt) (returns-in-Ok-clause-ok g c).entry
-
-pub returns-in-Ok-clause-left : goal.returns-in-Ok-clause-left
-returns-in-Ok-clause-left g c =
-    let P = g.D.PageDisk in
-    let entry = (returns-in-Ok-clause-ok g c).entry in
-    leaves_told P.seen c.args.self.now.state c.take_in.new.self.state entry.config entry.instance
-    (subst (λ (d : g.row.D.Denot). IsSameDisk (P.seen c.args.self.now.state.disk) (P.seen d)) (sym c.take_in.ensures.disk) c.read_in.ensures.disk)
-
-pub returns-in-Err-DiskFault-clause-settled : goal.returns-in-Err-DiskFault-clause-settled
-returns-in-Err-DiskFault-clause-settled g c = subst AreSettled (sym (c.refuse.ensures.unmoved ∙ ap (λ (x : FramesSeen). x.rows) c.in-Err-DiskFault.ensures.err)) c.requires.settled
+    let rest = c.requires.rest in
+    let a = c.take_in.ensures in
+    let read = c.in-Ok.ensures.ok in
+    let loaded = (returns-in-Ok-clause-loaded g c).loaded in
+    keeps_more P.seen old new s u l (returns-in-Ok-clause-more g c)
+    (leaves_told P.seen old new loaded.entry.config loaded.entry.instance (subst (λ (d : g.row.D.Denot). IsSameDisk (P.seen old.disk) (P.seen d)) (sym a.disk) c.read_in.ensures.disk))
+    (record {
+      tied = a.tied;
+      settled = settled_loaded s.rows u.rows f c.args.page loaded.content (mark old.config.first old.history + 1)
+          (rest.tied.rows f (below_rows P.seen s old f rest.tied c.requires.next.below)).unlatched loaded.rows_are rest.settled;
+    })
+    (a.base ∙ ap (λ (x : FramesSeen). x.base) read.seen)
+    (λ o based before. a.behind o (subst (λ (x : FramesSeen). IfSome x.base (λ base. base ≡ o.base)) (sym read.seen) based) (c.read_in.ensures.behind o before))
 
 pub returns-in-Err-DiskFault-clause-more : goal.returns-in-Err-DiskFault-clause-more
 returns-in-Err-DiskFault-clause-more g c = subst (λ (h : List Entry). IsOneMore h c.refuse.new.self.state.history) c.read_in.ensures.history
-    (one_more c.read_in.new.self.state c.refuse.new.self.state c.args.by (kind.Refused (call.Fix c.args.page c.args.now) (cause.DiskFault c.in-Err-DiskFault.before c.in-Err-DiskFault.after)) (λ x. tt) (λ n. refl) (λ m. tt) c.refuse.ensures.appended)
+    (one_more c.read_in.new.self.state c.refuse.new.self.state c.args.by (kind.Refused (call.Fix c.args.page c.args.now) (cause.DiskFault c.in-Err-DiskFault.before c.in-Err-DiskFault.after)) (λ x. tt) (λ n. refl) (λ m. tt) c.refuse.ensures.refused.entry)
 
-pub returns-in-Err-DiskFault-clause-left : goal.returns-in-Err-DiskFault-clause-left
-returns-in-Err-DiskFault-clause-left g c =
-    let P = g.D.PageDisk in
-    leaves_told P.seen c.args.self.now.state c.refuse.new.self.state
-    (c.refuse.ensures.appended.config ∙ c.read_in.ensures.config) (c.refuse.ensures.appended.instance ∙ c.read_in.ensures.instance)
-    (subst (λ (d : g.row.D.Denot). IsSameDisk (P.seen c.args.self.now.state.disk) (P.seen d)) (sym c.refuse.ensures.disk) c.read_in.ensures.disk)
-
-pub returns-in-Err-BadPage-clause-settled : goal.returns-in-Err-BadPage-clause-settled
-returns-in-Err-BadPage-clause-settled g c = subst AreSettled (sym (c.refuse-in-Err-BadPage.ensures.unmoved ∙ ap (λ (x : FramesSeen). x.rows) c.in-Err-BadPage.ensures.err)) c.requires.settled
+pub returns-in-Err-DiskFault-clause-keeps : goal.returns-in-Err-DiskFault-clause-keeps
+returns-in-Err-DiskFault-clause-keeps g c = λ l.
+    let S = g.D.PageDisk.seen in
+    let old = c.args.self.now.state in
+    let mid = c.read_in.new.self.state in
+    let s = g.F.Frames.seen c.args.frames.now in
+    let t = g.F.Frames.seen c.read_in.new.frames in
+    let r = c.read_in.ensures in
+    keeps_on S 0 1 (moment old s l) (moment mid t l) _
+    (keeps_read S old mid s t l r.config r.instance r.history r.disk c.in-Err-DiskFault.ensures.err r.tied c.requires.rest.settled r.behind) (c.refuse.ensures.keeps l tt)
 
 pub returns-in-Err-BadPage-clause-more : goal.returns-in-Err-BadPage-clause-more
 returns-in-Err-BadPage-clause-more g c = subst (λ (h : List Entry). IsOneMore h c.refuse-in-Err-BadPage.new.self.state.history) c.read_in.ensures.history
-    (one_more c.read_in.new.self.state c.refuse-in-Err-BadPage.new.self.state c.args.by (kind.Refused (call.Fix c.args.page c.args.now) (cause.BadPage c.in-Err-BadPage.bad)) (λ x. tt) (λ n. refl) (λ m. tt) c.refuse-in-Err-BadPage.ensures.appended)
+    (one_more c.read_in.new.self.state c.refuse-in-Err-BadPage.new.self.state c.args.by (kind.Refused (call.Fix c.args.page c.args.now) (cause.BadPage c.in-Err-BadPage.bad)) (λ x. tt) (λ n. refl) (λ m. tt) c.refuse-in-Err-BadPage.ensures.refused.entry)
 
-pub returns-in-Err-BadPage-clause-left : goal.returns-in-Err-BadPage-clause-left
-returns-in-Err-BadPage-clause-left g c =
-    let P = g.D.PageDisk in
-    leaves_told P.seen c.args.self.now.state c.refuse-in-Err-BadPage.new.self.state
-    (c.refuse-in-Err-BadPage.ensures.appended.config ∙ c.read_in.ensures.config) (c.refuse-in-Err-BadPage.ensures.appended.instance ∙ c.read_in.ensures.instance)
-    (subst (λ (d : g.row.D.Denot). IsSameDisk (P.seen c.args.self.now.state.disk) (P.seen d)) (sym c.refuse-in-Err-BadPage.ensures.disk) c.read_in.ensures.disk)
+pub returns-in-Err-BadPage-clause-keeps : goal.returns-in-Err-BadPage-clause-keeps
+returns-in-Err-BadPage-clause-keeps g c = λ l.
+    let S = g.D.PageDisk.seen in
+    let old = c.args.self.now.state in
+    let mid = c.read_in.new.self.state in
+    let s = g.F.Frames.seen c.args.frames.now in
+    let t = g.F.Frames.seen c.read_in.new.frames in
+    let r = c.read_in.ensures in
+    keeps_on S 0 1 (moment old s l) (moment mid t l) _
+    (keeps_read S old mid s t l r.config r.instance r.history r.disk c.in-Err-BadPage.ensures.err r.tied c.requires.rest.settled r.behind) (c.refuse-in-Err-BadPage.ensures.keeps l tt)

@@ -1,6 +1,6 @@
 use Rattle.trail.specs.Victim.{from_the_tail}
 use Rattle.frame_words.specs.Seen.{KeepsRoom}
-use Rattle.desk.proofs.Walks.{left_at}
+use Rattle.instance_lists.proofs.Walks.{left_at}
 use Rattle.desk.proofs.Seeking.{SoFar}
 use Rattle.desk.proofs.desk.Desk.pass.Given as goal
 

@@ -6,7 +6,7 @@ use Rattle.page_ids.specs.Size.{page_bytes}
 use Rattle.frame_words.specs.Rows.{laid_row}
 use Rattle.frame_words.specs.Seen.{FramesSeen, row_at, with_row}
 use Rattle.desk.specs.Behind.{IsBehind}
-use Rattle.desk.specs.Ledger.{IsVacant}
+use Rattle.instance_lists.specs.Ledger.{IsVacant}
 use Rattle.desk.specs.Tied.{AreTied}
 use Rattle.desk.proofs.Behind.{made, behind_same}
 use Rattle.desk.proofs.Loading.{behind_laid}

@@ -4,7 +4,8 @@ use Rattle.page_ids.specs.declared.ids.PageId.{PageId}
 use Rattle.trail.specs.Victim.{walk}
 use Rattle.frame_words.specs.Rows.{Row}
 use Rattle.frame_words.specs.Seen.{FramesSeen}
-use Rattle.desk.specs.Claimed.{HasLooked, IsTaken, ArePassedBy, StopsAt, part_of}
+use Rattle.instance_lists.specs.Walk.{part_of}
+use Rattle.desk.specs.Claimed.{HasLooked, IsTaken, ArePassedBy, StopsAt}
 use Rattle.desk.proofs.Claims.{tied_looked}
 use Rattle.desk.proofs.PassedWords.{at_some, at_none, ok_none_map, ok_some_map, looked_map, looked_on, passed_none}
 use Rattle.desk.proofs.Seeking.{taken_on, stops_append}

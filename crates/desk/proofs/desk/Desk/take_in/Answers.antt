@@ -58,3 +58,6 @@ returns-clause-behind g c = λ o based before.
     c.append.ensures.appended c.append.ensures.disk seen
     (behind_loaded g.D.PageDisk.seen o old.config old.instance old.history old.disk s c.args.by c.args.page f image.0
     inside c.requires.vacant c.requires.clean c.requires.inside image.1.image image.1.read (λ none. (c.requires.tied.shared f inside none).1) based before)
+
+pub returns-clause-base : goal.returns-clause-base
+returns-clause-base g c = ap (λ (u : FramesSeen). u.base) c.publish.ensures.seen ∙ ap (λ (u : FramesSeen). u.base) c.append.ensures.seen

@@ -7,10 +7,11 @@ use Rattle.page_ids.specs.declared.frame_word.Word.{Word}
 use Rattle.frame_words.specs.Appends.{IsNoHome}
 use Rattle.frame_words.specs.Rows.{IsFound}
 use Rattle.frame_words.specs.Seen.{row_at, visits_of}
-use Rattle.desk.specs.Claimed.{ArePassedBy, test_of}
+use Rattle.instance_lists.specs.Walk.{test_of}
+use Rattle.desk.specs.Claimed.{ArePassedBy}
 use Rattle.desk.specs.Steps.{row_in}
 use Rattle.desk.proofs.Claims.{resident_at}
-use Rattle.desk.proofs.Walks.{test_passes, tested}
+use Rattle.instance_lists.proofs.Walks.{test_passes, tested}
 use Rattle.desk.proofs.PassedWords.{each_some, looked_same, passed_looked, passed_push}
 use Rattle.desk.proofs.desk.Desk.try_frame.Goals as goal
 
@@ -42,8 +43,8 @@ claim_at-requires-clause-free g c =
       unlatched = (tied.rows c.args.frame (omega (arith, below, whole))).unlatched;
     }
 
-pub returns-then-is_dirty-soiled-clause-looked : goal.returns-then-is_dirty-soiled-clause-looked
-returns-then-is_dirty-soiled-clause-looked g c = looked_same (g.F.Frames.seen c.args.frames.now)
+pub returns-then-is_dirty_in-soiled-clause-looked : goal.returns-then-is_dirty_in-soiled-clause-looked
+returns-then-is_dirty_in-soiled-clause-looked g c = looked_same (g.F.Frames.seen c.args.frames.now)
 
 pub returns-in_ok-push-in-Err-clause-passed : goal.returns-in_ok-push-in-Err-clause-passed
 returns-in_ok-push-in-Err-clause-passed g c = λ p pages here are.
@@ -61,7 +62,10 @@ returns-in_ok-push-in-Err-clause-passed g c = λ p pages here are.
     let found : IsFound (row_in s.rows f) 0 w = subst (λ (v : Option ℕ). IsFound (row_at s f) (visits_of v f) w) tied.unvisited err.0 in
     let T = test_of h c.args.soiled in
     let same : p ≡ c.page_in-page.result = c.requires.alone c.page_in-page.result p (subst (λ x. home x.state.history c.page_in-page.result ≡ Some f) c.self.view_is c.page_in-page.ensures.home) here in
-    let test : T p ≡ true = ap T same ∙ tested c.args.soiled h c.page_in-page.result (ap (λ (b : Bool). not (beq b c.args.soiled)) (ap (λ x. is_dirty x.state.history c.page_in-page.result) (sym c.self.view_is) ∙ sym c.is_dirty.ensures) ∙ c.if-is_dirty-soiled.false) in
+    let dirt : c.is_dirty_in.result ≡ is_dirty h c.page_in-page.result =
+    subst (λ x. (q : PageId) → home x.state.history q ≡ Some f → c.is_dirty_in.result ≡ is_dirty x.state.history q) c.self.view_is c.is_dirty_in.ensures c.page_in-page.result
+    (subst (λ x. home x.state.history c.page_in-page.result ≡ Some f) c.self.view_is c.page_in-page.ensures.home) in
+    let test : T p ≡ true = ap T same ∙ tested c.args.soiled h c.page_in-page.result (ap (λ (b : Bool). not (beq b c.args.soiled)) (sym dirt) ∙ c.if-is_dirty_in-soiled.false) in
     subst (λ (l : List PageId). ArePassedBy h s.rows t.found (pages ++ l) c.push.new.self.items) (sym (test_passes T p [] test))
     (subst (λ (l : List (ℕ × Word)). ArePassedBy h s.rows t.found (pages ++ p ∷ []) l) (sym c.in_ok-push-in-Err.ensures.items)
     (passed_push h s.rows t.found pages c.args.passed.now.items p f w (passed_looked h s.rows s t pages c.args.passed.now.items err.2 are) here

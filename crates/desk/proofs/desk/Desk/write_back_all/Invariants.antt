@@ -23,6 +23,6 @@ invariant-loop-written g l = record {
   known : log_end l.self.state.history ≤ l.redo.seen.end;
   later : IsLater l.fn.redo.seen l.redo.seen;
   opening : l.redo.opening ≡ l.fn.redo.opening;
-  kept : IsKept l.fn.redo.seen (g.R.RedoDisk.told l.fn.redo.disk) → IsKept l.redo.seen (g.R.RedoDisk.told l.redo.disk);
+  kept : IsKept l.fn.redo.seen (g.R.RedoDisk.seen l.fn.redo.disk).told → IsKept l.redo.seen (g.R.RedoDisk.seen l.redo.disk).told;
   behind : (o : Opened) → IsBehind g.D.PageDisk.seen o l.fn.self.state (g.F.Frames.seen l.fn.frames) → IsBehind g.D.PageDisk.seen o l.self.state (g.F.Frames.seen l.frames);
 }

@@ -69,7 +69,7 @@ pub returns-clause-log : goal.returns-clause-log
 returns-clause-log g c =
     let h = c.self.inside.lists.history in
     let told = c.write_page-written.ensures in
-    subst (λ x. KeepsLog g.R.RedoDisk.told c.args.redo.now c.write_page-written.new.redo x.state.history h) c.self.view_is (record {
+    subst (λ x. KeepsLog g.R.RedoDisk.seen c.args.redo.now c.write_page-written.new.redo x.state.history h) c.self.view_is (record {
       later = told.later;
       opening = told.opening;
       kept = λ was. told.kept;

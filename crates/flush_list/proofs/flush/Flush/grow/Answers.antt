@@ -1,48 +1,55 @@
-use Rattle.std.proofs.Common.{◌≡◌, ◌∙◌, ◌≤◌, ℕ, List, map, get_or, length, sym, ap, subst, arith}
-use Rattle.std.proofs.Math.Nat.{max-eq_right, le-max_right}
-use Rattle.link_lists.specs.Grid.{times}
-use Rattle.link_lists.specs.Chains.{IsChain, list_of}
-use Rattle.flush_list.specs.View.{View, IsInOrder}
-use Rattle.flush_list.specs.Inside.{node_of, frames_of}
-use Rattle.flush_list.proofs.Order.{order-grow}
-use Rattle.flush_list.proofs.Frames.{nodes_agree, below}
-use Rattle.flush_list.proofs.Kept.{listed_is, room_is, order_of, seen}
+use Rattle.std.proofs.Common.{rules, refl, ◌∙◌, ◌≤◌, max, length, map, ap, arith}
+use Rattle.std.proofs.Math.Nat.{max-le}
+use Rattle.link_lists.specs.IndexLists.{IndexList}
+use Rattle.flush_list.specs.View.{View}
+use Rattle.flush_list.specs.Inside.{node_of}
+use Rattle.flush_list.proofs.Kept.{listed_is, room_is, nodes_same, kept_longer, seen}
 use Rattle.flush_list.proofs.flush.Flush.grow.Goals as goal
 
-pub returns-in_ok-resize-clause-ok : goal.returns-in_ok-resize-clause-ok
-returns-in_ok-resize-clause-ok c =
+pub returns-clause-ok : goal.returns-clause-ok
+returns-clause-ok c =
     let a = c.self.inside in
     let v = c.args.self.now in
-    let os = a.oldest.items in
-    let os' = c.resize.new.self.items in
-    let xs = frames_of a in
-    let laws = c.a_chain_is_one_list.ensures in
-    let new : list_of c.grow.new.self a.chain ≡ xs = laws.found _ _ xs (c.in_ok-grow.ensures.grown.chains a.chain xs c.self.invariant.chain) in
-    let agree : (f : ℕ) → 1 ≤ times f xs → get_or os' f 0 ≡ get_or os f 0 = λ f there.
-    let within = below os (length os) f xs c.self.invariant.order.below there in
-    c.resize.ensures.by_index.0 f 0 (omega (arith, within, a.oldest.ok.0, c.len.ensures, c.if-len-frames.true)) (omega (arith, within, a.oldest.ok.0)) in
-    let len : length os' ≡ c.args.frames = omega (arith, c.in_ok-resize.ensures.len, c.resize.new.self.ok.0) in
-    let more : v.room ≤ c.args.frames = omega (arith, room_is a v c.self.view_is, a.oldest.ok.0, c.len.ensures, c.if-len-frames.true) in
-    let w : View = record v { room = c.args.frames } in
-    seen w os' _ v.listed len (ap (map (node_of os')) new ∙ nodes_agree os os' xs agree ∙ listed_is a v c.self.view_is)
-    ∙ ap (λ r. let u : View = record { listed = v.listed; room = r } in u) (sym (max-eq_right more))
+    let os = c.lengthen.new.oldest.items in
+    let grown = c.in_ok-grow.ensures.ok in
+    let w : View = record v { room = max v.room c.args.frames } in
+    seen w os c.grow.new.self v.listed (ap (λ (l : IndexList). l.room) grown ∙ ap (λ r. max r c.args.frames) (room_is a v c.self.view_is))
+    (ap (λ (l : IndexList). map (node_of os) l.items) grown ∙ nodes_same a c.self.invariant c.stands_in_order.ensures os c.lengthen.ensures.kept ∙ listed_is a v c.self.view_is)
 
-pub invariant_of-self-in-Continue-branch-2 : goal.invariant_of-self-in-Continue-branch-2
-invariant_of-self-in-Continue-branch-2 c =
+pub returns-in_err-lengthen-clause-err : goal.returns-in_err-lengthen-clause-err
+returns-in_err-lengthen-clause-err c =
     let a = c.self.inside in
     let v = c.args.self.now in
-    let xs = frames_of a in
-    let laws = c.a_chain_is_one_list.ensures in
-    let grown = c.in_ok-grow.ensures.grown in
-    let chain = grown.chains a.chain xs c.self.invariant.chain in
-    let new : list_of c.grow.new.self a.chain ≡ xs = laws.found _ _ xs chain in
-    let len : length c.resize.new.self.items ≡ c.args.frames = omega (arith, c.in_ok-resize.ensures.len, c.resize.new.self.ok.0) in
-    let more : v.room ≤ c.args.frames = omega (arith, room_is a v c.self.view_is, a.oldest.ok.0, c.len.ensures, c.if-len-frames.true) in
-    let order = order-grow v c.args.frames more (order_of a v c.self.view_is c.self.invariant) in
-    let is = returns-in_ok-resize-clause-ok c ∙ ap (λ r. let u : View = record { listed = v.listed; room = r } in u) (max-eq_right more) in record {
-      chain = subst (λ (ys : List ℕ). IsChain c.grow.new.self a.chain ys) (sym new) chain;
-      len = c.self.invariant.len ∙ ap length (sym new);
-      nodes = omega (arith, len, grown.nodes, le-max_right a.nodes.nodes c.args.frames);
-      fits = omega (arith, len, c.ranges.frames.fits);
-      order = subst IsInOrder (sym is) order;
-    }
+    let same = seen v c.lengthen.new.oldest.items a.list v.listed (room_is a v c.self.view_is)
+    (nodes_same a c.self.invariant c.stands_in_order.ensures c.lengthen.new.oldest.items c.lengthen.ensures.kept ∙ listed_is a v c.self.view_is) in
+    search (rules, same)
+
+pub returns-in_err-grow-clause-err : goal.returns-in_err-grow-clause-err
+returns-in_err-grow-clause-err c =
+    let a = c.self.inside in
+    let v = c.args.self.now in
+    let os = c.lengthen.new.oldest.items in
+    let left = c.in_err-grow.ensures.err in
+    let same = seen v os c.grow.new.self v.listed (ap (λ (l : IndexList). l.room) left ∙ room_is a v c.self.view_is)
+    (ap (λ (l : IndexList). map (node_of os) l.items) left ∙ nodes_same a c.self.invariant c.stands_in_order.ensures os c.lengthen.ensures.kept ∙ listed_is a v c.self.view_is) in
+    search (rules, same)
+
+pub invariant_of-self : goal.invariant_of-self
+invariant_of-self c =
+    let k = c.self.invariant in
+    kept_longer c.self.inside k c.stands_in_order.ensures c.lengthen.new.oldest c.self.inside.list c.lengthen.ensures.kept refl (omega (arith, k.room, c.lengthen.ensures.longer))
+
+pub invariant_of-self-in_err-grow : goal.invariant_of-self-in_err-grow
+invariant_of-self-in_err-grow c =
+    let k = c.self.invariant in
+    let left = c.in_err-grow.ensures.err in
+    kept_longer c.self.inside k c.stands_in_order.ensures c.lengthen.new.oldest c.grow.new.self c.lengthen.ensures.kept (ap (λ (l : IndexList). l.items) left)
+    (omega (arith, k.room, c.lengthen.ensures.longer, ap (λ (l : IndexList). l.room) left))
+
+pub invariant_of-self-2 : goal.invariant_of-self-2
+invariant_of-self-2 c =
+    let k = c.self.invariant in
+    let grown = c.in_ok-grow.ensures.ok in
+    let most : max c.self.inside.list.room c.args.frames ≤ length c.lengthen.new.oldest.items = max-le (omega (arith, k.room, c.lengthen.ensures.longer)) c.in_ok-lengthen.ensures.long in
+    kept_longer c.self.inside k c.stands_in_order.ensures c.lengthen.new.oldest c.grow.new.self c.lengthen.ensures.kept (ap (λ (l : IndexList). l.items) grown)
+    (omega (arith, most, ap (λ (l : IndexList). l.room) grown))

@@ -1,54 +1,39 @@
-use Rattle.std.proofs.Common.{◌≡◌, ◌∙◌, ◌++◌, ◌∷◌, map, length, sym, ap, subst, arith}
-use Rattle.std.proofs.lemmas.List.{length-append}
-use Rattle.link_lists.specs.Chains.{IsChain, Has, list_of}
-use Rattle.link_lists.proofs.Times.{none_before, none_behind}
-use Rattle.flush_list.specs.View.{IsInOrder, without}
-use Rattle.flush_list.specs.Inside.{node_of, frames_of}
-use Rattle.flush_list.proofs.Order.{order-remove}
+use Rattle.std.proofs.Common.{◌∙◌, ◌≤◌, ℕ, List, map, sym, ap, subst, arith}
+use Rattle.std.specs.Prelude.{AllPairs}
+use Rattle.link_lists.specs.Grid.{times}
+use Rattle.link_lists.specs.IndexLists.{IndexList}
+use Rattle.link_lists.proofs.Times.{placed, none_before, none_behind}
+use Rattle.flush_list.specs.View.{View, without}
+use Rattle.flush_list.specs.Inside.{node_of}
+use Rattle.flush_list.proofs.Order.{falling-remove}
 use Rattle.flush_list.proofs.Frames.{removed}
-use Rattle.flush_list.proofs.Kept.{listed_is, room_is, order_of, is_in, seen}
+use Rattle.flush_list.proofs.Kept.{listed_is, room_is, falling_is, is_in, seen}
 use Rattle.flush_list.proofs.flush.Flush.remove.Goals as goal
 
-pub unlink-requires : goal.unlink-requires
-unlink-requires c =
-    let a = c.self.inside in
-    let laws = c.a_chain_is_one_list.ensures in
-    record { present = laws.present a.nodes a.chain (frames_of a) c.args.frame c.self.invariant.chain (is_in a c.args.self.now c.self.view_is c.args.frame c.requires) }
+pub remove-requires : goal.remove-requires
+remove-requires c = is_in c.self.inside c.args.self.now c.self.view_is c.args.frame c.requires
 
 pub returns : goal.returns
 returns c =
     let a = c.self.inside in
     let v = c.args.self.now in
     let f = c.args.frame in
-    let laws = c.a_chain_is_one_list.ensures in
-    let h : Has a.nodes a.chain f = laws.present a.nodes a.chain (frames_of a) f c.self.invariant.chain (is_in a v c.self.view_is f c.requires) in
-    let front = h.0 in
-    let back = h.1 in
-    let old : frames_of a ≡ front ++ f ∷ back = laws.found a.nodes a.chain (front ++ f ∷ back) h.2 in
-    let new : list_of c.unlink.new.nodes c.unlink.new.self ≡ front ++ back = laws.found _ _ (front ++ back) (c.unlink.ensures.list front back h.2) in
+    let t = placed f a.list.items (is_in a v c.self.view_is f c.requires) in
+    let once = subst (λ (xs : List ℕ). times f xs ≤ 1) t.2 (c.stands_in_order.ensures.once f) in
+    let left = c.remove.ensures t.0 t.1 t.2 in
     let g = node_of a.oldest.items in
-    seen v a.oldest.items _ _ (sym (room_is a v c.self.view_is))
-    (ap (map g) new
-    ∙ sym (removed a.oldest.items f front back (none_before f front back (h.2.once f)) (none_behind f front back (h.2.once f)))
-    ∙ ap (λ xs. without f (map g xs)) (sym old)
+    seen v a.oldest.items c.remove.new.self _ (ap (λ (l : IndexList). l.room) left ∙ room_is a v c.self.view_is)
+    (ap (λ (l : IndexList). map g l.items) left
+    ∙ sym (removed a.oldest.items f t.0 t.1 (none_before f t.0 t.1 once) (none_behind f t.0 t.1 once))
+    ∙ ap (λ xs. without f (map g xs)) (sym t.2)
     ∙ ap (without f) (listed_is a v c.self.view_is))
 
 pub invariant_of-self : goal.invariant_of-self
 invariant_of-self c =
     let a = c.self.inside in
     let v = c.args.self.now in
-    let f = c.args.frame in
-    let laws = c.a_chain_is_one_list.ensures in
-    let h : Has a.nodes a.chain f = laws.present a.nodes a.chain (frames_of a) f c.self.invariant.chain (is_in a v c.self.view_is f c.requires) in
-    let front = h.0 in
-    let back = h.1 in
-    let old : frames_of a ≡ front ++ f ∷ back = laws.found a.nodes a.chain (front ++ f ∷ back) h.2 in
-    let chain = c.unlink.ensures.list front back h.2 in
-    let new : list_of c.unlink.new.nodes c.unlink.new.self ≡ front ++ back = laws.found _ _ (front ++ back) chain in
-    let others = c.unlink.ensures.others (frames_of a) c.self.invariant.chain in record {
-      chain = subst (λ xs. IsChain c.unlink.new.nodes c.unlink.new.self xs) (sym new) chain;
-      len = omega (arith, c.self.invariant.len, ap length old, ap length new, length-append front (f ∷ back), length-append front back);
-      nodes = omega (arith, others.nodes, c.self.invariant.nodes);
-      fits = c.self.invariant.fits;
-      order = subst IsInOrder (sym (returns c)) (order-remove v f (order_of a v c.self.view_is c.self.invariant));
+    let t = placed c.args.frame a.list.items (is_in a v c.self.view_is c.args.frame c.requires) in record {
+      room = omega (arith, c.self.invariant.room, ap (λ (l : IndexList). l.room) (c.remove.ensures t.0 t.1 t.2));
+      falling = subst (λ (w : View). AllPairs (λ x y. y.oldest ≤ x.oldest) w.listed) (sym (returns c))
+          (falling-remove c.args.frame v.listed (falling_is a v c.self.view_is c.self.invariant));
     }

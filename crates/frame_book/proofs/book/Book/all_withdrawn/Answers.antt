@@ -13,9 +13,9 @@ returns-in-Some c =
     let all : c.first_of.result ≡ v.chunks * v.frames = c.first_of.ensures ∙ ap (λ (v : View). c.self.inside.chunks * v.frames) (sym c.self.view_is) in
     let first : c.first_of-in-Some.result ≡ from * v.frames = c.first_of-in-Some.ensures ∙ ap (λ (v : View). from * v.frames) (sym c.self.view_is) in (
       (λ t.
-          let len = eqb-true c.withdrawn_len.result (c.first_of.result - c.first_of-in-Some.result) t in
-          subst IsAllWithdrawn c.self.view_is (all_by_length v from c.self.invariant.order opened (omega (arith, len, c.withdrawn_len.ensures, all, first)))),
+          let len = eqb-true c.len.result (c.first_of.result - c.first_of-in-Some.result) t in
+          subst IsAllWithdrawn c.self.view_is (all_by_length v from c.self.invariant.order opened (omega (arith, len, c.len.ensures, all, first)))),
       (λ every.
           let len = length_by_all v from c.self.invariant.order opened (subst IsAllWithdrawn (sym c.self.view_is) every) in
-          eq-eqb c.withdrawn_len.result (c.first_of.result - c.first_of-in-Some.result) (omega (arith, len, c.withdrawn_len.ensures, all, first))),
+          eq-eqb c.len.result (c.first_of.result - c.first_of-in-Some.result) (omega (arith, len, c.len.ensures, all, first))),
     )

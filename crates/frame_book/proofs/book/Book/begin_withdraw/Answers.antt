@@ -1,9 +1,9 @@
-use Rattle.std.proofs.Common.{◌≡◌, ◌∙◌, ◌+◌, ◌*◌, ◌-◌, ◌<◌, ◌≤◌, ◌++◌, ◌∷◌, [], ℕ, List, Option, Some, None, true, false, not, max, length, drop, refl, sym, ap, subst, arith, nat_le, unwrap_or}
-use Rattle.std.specs.Prelude.{IfSome, filter}
-use Rattle.frame_book.specs.View.{View, IsInOrder, IsInUse, IsAllWithdrawn, frames_of, is_inside, front, taken, grown, undone, withdrawing, finished}
-use Rattle.frame_book.specs.Lists.{Pair}
-use Rattle.frame_book.specs.Inside.{view_of, IsKept}
-use Rattle.frame_book.proofs.Order.{order-withdrawing}
+use Rattle.std.proofs.Common.{◌≡◌, ◌∙◌, ◌*◌, ◌<◌, ◌≤◌, Some, None, sym, ap, subst, arith}
+use Rattle.page_ids.specs.FrameLists as rule
+use Rattle.page_ids.specs.FrameLists.{FrameLists}
+use Rattle.frame_book.specs.View.{View, IsInOrder, withdrawing}
+use Rattle.frame_book.specs.Inside.{view_of}
+use Rattle.frame_book.proofs.Order.{order-room, order-withdrawing}
 use Rattle.frame_book.proofs.book.Book.begin_withdraw.Goals as goal
 
 pub invariant_of-self : goal.invariant_of-self
@@ -16,10 +16,10 @@ invariant_of-self c =
     let none : v.area ≡ None = c.in_default.is in
     let high : from < v.chunks = omega (arith, c.requires, ap (λ (v : View). v.chunks) c.self.view_is) in
     let low : 1 ≤ from = omega (arith, c.if-from-eq0.false) in
-    let moved = c.withdraw_from.ensures
-    ∙ ap (λ n. let q : Pair = record a.lists { free = filter (λ f. not (nat_le n f)) a.lists.free; withdrawn = a.lists.withdrawn ++ filter (λ f. nat_le n f) a.lists.free } in q) first in
-    let room = ap (λ (q : Pair). q.room) c.withdraw_from.ensures in record {
-      order = subst (λ (q : Pair). IsInOrder (view_of (record a { area = Some from; lists = q }))) (sym moved) (order-withdrawing v from k.order none low high);
-      enough = omega (arith, k.enough, room);
-      most = omega (arith, k.most, room);
+    let told = c.withdraw_from.ensures in
+    let moved = told.moved ∙ ap (λ n. rule.withdrawing n v.lists) first in record {
+      order = subst (λ (l : FrameLists). IsInOrder (record v { area = Some from; lists = l; room = c.withdraw_from.new.withdrawn.room })) (sym moved)
+          (order-room (withdrawing from v) c.withdraw_from.new.withdrawn.room (order-withdrawing v from k.order none low high));
+      enough = omega (arith, k.enough, told.rooms.1);
+      more = omega (arith, k.more, told.rooms.0, told.rooms.1);
     }

@@ -1,4 +1,4 @@
-use Rattle.std.proofs.Common.{◌≡◌, max, sym, ap, subst, arith}
+use Rattle.std.proofs.Common.{max, sym, subst}
 use Rattle.std.proofs.Math.Nat.{le-max_left}
 use Rattle.midpoint_lru.specs.Parts.{Parts}
 use Rattle.midpoint_lru.specs.Inside.{view_of, IsKept}
@@ -13,7 +13,6 @@ invariant_of-self-2 c =
     subst (λ (q : Parts). IsKept (record a { parts = q })) (sym c.in_ok-grow.ensures.ok) (record {
       percent = k.percent;
       counted = k.counted;
-      few = omega (arith, k.few, more);
       exact = k.exact;
       frames = frames-grow (view_of a) (max a.parts.room c.args.frames) more k.frames;
     })

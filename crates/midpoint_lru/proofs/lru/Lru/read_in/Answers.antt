@@ -1,24 +1,22 @@
-use Rattle.std.proofs.Common.{◌≡◌, ◌∙◌, ◌+◌, ◌-◌, ◌<◌, ◌≤◌, ◌==◌, ◌∷◌, ℕ, true, false, not, nat_lt, cond, List, None, Some, length, refl, sym, ap, subst, arith, unwrap_or}
-use Rattle.std.specs.Prelude.{insert, remove, slice_get, slice_set}
-use Rattle.page_ids.specs.Midpoint.{Listed, place_of, old_length, young_length, read_in, touch, evict, relocate}
+use Rattle.std.proofs.Common.{◌≡◌, ◌∙◌, ◌-◌, ◌<◌, ◌==◌, ℕ, cond, None, length, sym, ap, subst, arith}
+use Rattle.std.specs.Prelude.{insert}
+use Rattle.page_ids.specs.Midpoint.{Listed, place_of, old_length, read_in}
 use Rattle.midpoint_lru.specs.View.{View}
 use Rattle.midpoint_lru.specs.Parts.{Parts}
 use Rattle.midpoint_lru.specs.Inside.{view_of, AreFrames}
 use Rattle.page_ids.proofs.midpoint.Order.{length-read_in}
-use Rattle.midpoint_lru.proofs.Frames.{frames-read_in, few_listed}
-use Rattle.midpoint_lru.proofs.Rules.{frames_of, few_of, room_is, evicts_is, seen}
+use Rattle.midpoint_lru.proofs.Frames.{frames-read_in}
+use Rattle.midpoint_lru.proofs.Rules.{frames_of, room_is, evicts_is, seen}
 use Rattle.midpoint_lru.proofs.lru.Lru.read_in.Goals as goal
 
 pub put_between-requires : goal.put_between-requires
 put_between-requires c =
     let a = c.self.inside in
     let v = c.args.self.now in
-    let few = few_listed v c.args.frame (frames_of a v c.self.view_is c.self.invariant) c.requires in
     let room = room_is a v c.self.view_is in
     let away = c.requires.away in record {
       room = omega (arith, c.requires.room, room);
       away = λ l. away (subst (λ (w : View). place_of ◌==◌ c.args.frame w.order.listed < length w.order.listed) c.self.view_is l);
-      more = omega (arith, few, room, ap (λ (w : View). length w.order.listed) c.self.view_is);
     }
 
 pub returns : goal.returns
@@ -40,12 +38,10 @@ invariant_of-self c =
     let frames = frames_of a v c.self.view_is c.self.invariant in
     let settled = c.settle.ensures in
     let exact = ap (λ (q : Parts). q.old_len) settled ∙ c.old_length-old.ensures.old a.time
-    ∙ ap (old_length (view_of a).numbers) (c.len.ensures ∙ ap (λ (q : Parts). length q.listed) (sym settled)) in
-    let few = few_listed v c.args.frame frames c.requires in
+    ∙ ap (old_length (view_of a).numbers) (c.len.ensures.len ∙ ap (λ (q : Parts). length q.listed) (sym settled)) in
     let len = length-read_in v.numbers c.args.frame v.order in record {
       percent = c.self.invariant.percent;
       counted = c.self.invariant.counted;
-      few = subst (λ (w : View). length w.order.listed ≤ w.room) (sym (returns c)) (omega (arith, few, len));
       exact = exact;
       frames = subst AreFrames (sym (returns c)) (frames-read_in v c.args.frame frames c.requires);
     }

@@ -1,13 +1,12 @@
-use Rattle.std.proofs.Common.{◌≡◌, ◌∙◌, ◌+◌, ◌-◌, ◌<◌, ◌≤◌, ◌==◌, ◌∷◌, ℕ, true, false, not, nat_lt, cond, List, None, Some, length, get_or, refl, sym, ap, subst, arith, unwrap_or}
-use Rattle.std.specs.Prelude.{insert, remove, slice_get, slice_set}
-use Rattle.page_ids.specs.Midpoint.{Listed, place_of, old_length, young_length, read_in, touch, evict, relocate}
+use Rattle.std.proofs.Common.{◌≡◌, ◌∙◌, ◌==◌, length, get_or, sym, ap, subst}
+use Rattle.page_ids.specs.Midpoint.{place_of, old_length, relocate}
 use Rattle.midpoint_lru.specs.View.{View}
 use Rattle.midpoint_lru.specs.Parts.{Parts}
 use Rattle.midpoint_lru.specs.Inside.{view_of, AreFrames}
 use Rattle.std.proofs.lemmas.Option.{slice_get-get_or}
 use Rattle.page_ids.proofs.midpoint.Order.{length-relocate}
 use Rattle.midpoint_lru.proofs.Frames.{blank, frames-relocate}
-use Rattle.midpoint_lru.proofs.Rules.{frames_of, few_of, is_in, evicts_is, seen, relocated_is}
+use Rattle.midpoint_lru.proofs.Rules.{frames_of, is_in, evicts_is, seen, relocated_is}
 use Rattle.midpoint_lru.proofs.lru.Lru.relocate.Goals as goal
 
 pub returns : goal.returns
@@ -36,7 +35,6 @@ invariant_of-self c =
     let same = ap (λ (w : View). length w.order.listed) (returns c) ∙ len ∙ ap (λ (w : View). length w.order.listed) (sym c.self.view_is) in record {
       percent = c.self.invariant.percent;
       counted = c.self.invariant.counted;
-      few = subst (λ (w : View). length w.order.listed ≤ w.room) (sym (returns c)) (omega (arith, len, few_of a v c.self.view_is c.self.invariant));
       exact = ap (λ (q : Parts). q.old_len) replaced ∙ c.self.invariant.exact ∙ ap (old_length (view_of a).numbers) (sym same);
       frames = subst AreFrames (sym (returns c)) (frames-relocate v old new (frames_of a v c.self.view_is c.self.invariant) c.requires.listed c.requires.new);
     }

@@ -1,12 +1,11 @@
-use Rattle.std.proofs.Common.{◌≡◌, ◌∙◌, ◌+◌, ◌-◌, ◌<◌, ◌≤◌, ◌==◌, ◌∷◌, ℕ, true, false, not, nat_lt, cond, List, None, Some, length, refl, sym, ap, subst, arith, unwrap_or}
-use Rattle.std.specs.Prelude.{insert, remove, slice_get, slice_set}
-use Rattle.page_ids.specs.Midpoint.{Listed, place_of, old_length, young_length, read_in, touch, evict, relocate}
+use Rattle.std.proofs.Common.{◌≡◌, ◌∙◌, ◌+◌, ◌==◌, ℕ, length, sym, ap, subst, arith}
+use Rattle.page_ids.specs.Midpoint.{old_length, evict}
 use Rattle.midpoint_lru.specs.View.{View}
 use Rattle.midpoint_lru.specs.Parts.{Parts}
 use Rattle.midpoint_lru.specs.Inside.{view_of, AreFrames}
 use Rattle.page_ids.proofs.midpoint.Order.{length-evict}
 use Rattle.midpoint_lru.proofs.Frames.{frames-evict}
-use Rattle.midpoint_lru.proofs.Rules.{frames_of, few_of, evicts_is, seen}
+use Rattle.midpoint_lru.proofs.Rules.{frames_of, evicts_is, seen}
 use Rattle.midpoint_lru.proofs.lru.Lru.remove.Goals as goal
 
 pub returns : goal.returns
@@ -26,11 +25,10 @@ invariant_of-self c =
     let frames = frames_of a v c.self.view_is c.self.invariant in
     let settled = c.settle.ensures in
     let exact = ap (λ (q : Parts). q.old_len) settled ∙ c.old_length-old.ensures.old a.time
-    ∙ ap (old_length (view_of a).numbers) (c.len.ensures ∙ ap (λ (q : Parts). length q.listed) (sym settled)) in
+    ∙ ap (old_length (view_of a).numbers) (c.len.ensures.len ∙ ap (λ (q : Parts). length q.listed) (sym settled)) in
     let len = length-evict ◌==◌ c.args.frame v.order c.requires.listed in record {
       percent = c.self.invariant.percent;
       counted = omega (arith, c.requires.few, evicts_is a v c.self.view_is);
-      few = subst (λ (w : View). length w.order.listed ≤ w.room) (sym (returns c)) (omega (arith, len, few_of a v c.self.view_is c.self.invariant));
       exact = exact;
       frames = subst AreFrames (sym (returns c)) (frames-evict v c.args.frame frames c.requires.listed);
     }

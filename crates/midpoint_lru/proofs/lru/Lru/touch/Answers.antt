@@ -1,6 +1,6 @@
-use Rattle.std.proofs.Common.{◌≡◌, ◌∙◌, ◌+◌, ◌-◌, ◌<◌, ◌≤◌, ◌==◌, ◌∷◌, ℕ, Bool, true, false, not, nat_lt, cond, List, None, Some, length, refl, sym, ap, subst, arith, unwrap_or}
-use Rattle.std.specs.Prelude.{insert, remove, slice_get, slice_set}
-use Rattle.page_ids.specs.Midpoint.{Listed, place_of, old_length, young_length, read_in, touch, evict, relocate}
+use Rattle.std.proofs.Common.{◌≡◌, ◌∙◌, ◌<◌, ◌==◌, ◌∷◌, ℕ, true, false, cond, Some, length, sym, ap, subst, arith, unwrap_or}
+use Rattle.std.specs.Prelude.{remove, slice_get, slice_set}
+use Rattle.page_ids.specs.Midpoint.{Listed, place_of, old_length, touch}
 use Rattle.midpoint_lru.specs.View.{View}
 use Rattle.midpoint_lru.specs.Parts.{Parts}
 use Rattle.midpoint_lru.specs.Inside.{view_of, AreFrames}
@@ -9,7 +9,7 @@ use Rattle.page_ids.proofs.midpoint.Order.{length-touch}
 use Rattle.midpoint_lru.specs.declared.lru.Touch.{Touch}
 use Rattle.midpoint_lru.specs.declared.lru.Touch.TheVariants.{Stayed, Young}
 use Rattle.midpoint_lru.proofs.Frames.{frames-touch, below_there, out_after}
-use Rattle.midpoint_lru.proofs.Rules.{frames_of, few_of, is_in, room_is, evicts_is, seen, young_is, touched_is}
+use Rattle.midpoint_lru.proofs.Rules.{frames_of, is_in, evicts_is, seen, young_is, touched_is}
 use Rattle.midpoint_lru.proofs.lru.Lru.touch.Goals as goal
 
 pub put_first-requires : goal.put_first-requires
@@ -24,20 +24,15 @@ put_first-requires c =
     let len = length-remove a.parts.listed (place_of ◌==◌ f a.parts.listed) there in record {
       room = omega (arith, room, below_there v f k.frames there);
       away = λ l. out_after v f k.frames there (subst (λ xs. place_of ◌==◌ f xs < length xs) listed l);
-      more = omega (arith, room, ap length listed, len, k.few);
     }
 
+-- a touch that moves the frame
 pub returns-then-moves-clause-order : goal.returns-then-moves-clause-order
 returns-then-moves-clause-order c =
     let a = c.self.inside in
     let v = c.args.self.now in
     let f = c.args.frame in
-    let x : Listed ℕ = record { key = f; first = c.member-member.result.first; since = c.member-member.result.since } in
-    let found = subst (λ (w : View). slice_get w.order.listed (place_of ◌==◌ f w.order.listed) ≡ Some x) c.self.view_is c.member-member.ensures.found in
-    let mark = subst (λ (w : View). c.member-member.result.is_old ≡ not (nat_lt (place_of ◌==◌ f w.order.listed) (young_length w.numbers (length w.order.listed)))) c.self.view_is
-    (c.member-member.ensures.old ∙ ap (λ n. not (nat_lt (place_of ◌==◌ f a.parts.listed) (length a.parts.listed - n))) c.self.invariant.exact) in
-    let judged = c.moves.ensures (place_of ◌==◌ f v.order.listed) x refl refl mark in
-    let test = sym c.if-moves.true ∙ judged in
+    let x : Listed ℕ = record { key = f; first = c.judge-moves.result.0.first; since = c.judge-moves.result.0.since } in
     let listed_of = λ (q : Parts). q.listed in
     let room_of = λ (q : Parts). q.room in
     let node = λ (first since : ℕ). let y : Listed ℕ = record { key = f; first = Some first; since = since } in y in
@@ -47,50 +42,33 @@ returns-then-moves-clause-order c =
     ∙ ap (λ ys. node (unwrap_or x.first c.args.now) a.evicts ∷ ys) (ap listed_of c.take.ensures) in
     let moved = subst (λ (w : View). c.settle.new.self.listed ≡ node (unwrap_or x.first c.args.now) w.order.evicts ∷ remove w.order.listed (place_of ◌==◌ f w.order.listed)) c.self.view_is listed in
     seen a v c.self.view_is c.settle.new.self a.evicts (touch ◌==◌ v.numbers f c.args.now v.order)
-    (moved ∙ sym (touched_is v f c.args.now x found true test)) (evicts_is a v c.self.view_is)
+    (moved ∙ sym (touched_is v f c.args.now x c.judge-moves.ensures.found true (sym c.if-moves.true ∙ c.judge-moves.ensures.moves))) (evicts_is a v c.self.view_is)
     (ap room_of c.settle.ensures ∙ ap room_of c.put_first.ensures ∙ ap room_of c.take.ensures)
 
 pub returns-then-moves-clause-answer : goal.returns-then-moves-clause-answer
 returns-then-moves-clause-answer c =
-    let a = c.self.inside in
-    let v = c.args.self.now in
-    let f = c.args.frame in
-    let x : Listed ℕ = record { key = f; first = c.member-member.result.first; since = c.member-member.result.since } in
-    let found = subst (λ (w : View). slice_get w.order.listed (place_of ◌==◌ f w.order.listed) ≡ Some x) c.self.view_is c.member-member.ensures.found in
-    let mark = subst (λ (w : View). c.member-member.result.is_old ≡ not (nat_lt (place_of ◌==◌ f w.order.listed) (young_length w.numbers (length w.order.listed)))) c.self.view_is
-    (c.member-member.ensures.old ∙ ap (λ n. not (nat_lt (place_of ◌==◌ f a.parts.listed) (length a.parts.listed - n))) c.self.invariant.exact) in
-    let judged = c.moves.ensures (place_of ◌==◌ f v.order.listed) x refl refl mark in
-    sym (ap (λ b. cond {A = Touch} b Young Stayed) (young_is v f c.args.now x found true (sym c.if-moves.true ∙ judged)))
+    let x : Listed ℕ = record { key = c.args.frame; first = c.judge-moves.result.0.first; since = c.judge-moves.result.0.since } in
+    sym (ap (λ b. cond {A = Touch} b Young Stayed) (young_is c.args.self.now c.args.frame c.args.now x c.judge-moves.ensures.found true (sym c.if-moves.true ∙ c.judge-moves.ensures.moves)))
 
+-- and one that doesn't
 pub returns-else-moves-clause-order : goal.returns-else-moves-clause-order
 returns-else-moves-clause-order c =
     let a = c.self.inside in
     let v = c.args.self.now in
     let f = c.args.frame in
-    let x : Listed ℕ = record { key = f; first = c.member-member.result.first; since = c.member-member.result.since } in
-    let found = subst (λ (w : View). slice_get w.order.listed (place_of ◌==◌ f w.order.listed) ≡ Some x) c.self.view_is c.member-member.ensures.found in
-    let mark = subst (λ (w : View). c.member-member.result.is_old ≡ not (nat_lt (place_of ◌==◌ f w.order.listed) (young_length w.numbers (length w.order.listed)))) c.self.view_is
-    (c.member-member.ensures.old ∙ ap (λ n. not (nat_lt (place_of ◌==◌ f a.parts.listed) (length a.parts.listed - n))) c.self.invariant.exact) in
-    let judged = c.moves.ensures (place_of ◌==◌ f v.order.listed) x refl refl mark in
-    let test = sym c.if-moves.false ∙ judged in
-    let wrote = c.set_first.ensures x c.member-member.ensures.found in
+    let x : Listed ℕ = record { key = f; first = c.judge-moves.result.0.first; since = c.judge-moves.result.0.since } in
+    let found = subst (λ (w : View). slice_get w.order.listed (place_of ◌==◌ f w.order.listed) ≡ Some x) (sym c.self.view_is) c.judge-moves.ensures.found in
+    let wrote = c.set_first.ensures x found in
     let node = λ (first : ℕ). let y : Listed ℕ = record { key = f; first = Some first; since = x.since } in y in
     let listed = ap (λ (q : Parts). q.listed) wrote ∙ ap (λ n. slice_set a.parts.listed (place_of ◌==◌ f a.parts.listed) (node n)) c.unwrap_or.ensures in
     let stayed = subst (λ (w : View). c.set_first.new.self.listed ≡ slice_set w.order.listed (place_of ◌==◌ f w.order.listed) (node (unwrap_or x.first c.args.now))) c.self.view_is listed in
     seen a v c.self.view_is c.set_first.new.self a.evicts (touch ◌==◌ v.numbers f c.args.now v.order)
-    (stayed ∙ sym (touched_is v f c.args.now x found false test)) (evicts_is a v c.self.view_is) (ap (λ (q : Parts). q.room) wrote)
+    (stayed ∙ sym (touched_is v f c.args.now x c.judge-moves.ensures.found false (sym c.if-moves.false ∙ c.judge-moves.ensures.moves))) (evicts_is a v c.self.view_is) (ap (λ (q : Parts). q.room) wrote)
 
 pub returns-else-moves-clause-answer : goal.returns-else-moves-clause-answer
 returns-else-moves-clause-answer c =
-    let a = c.self.inside in
-    let v = c.args.self.now in
-    let f = c.args.frame in
-    let x : Listed ℕ = record { key = f; first = c.member-member.result.first; since = c.member-member.result.since } in
-    let found = subst (λ (w : View). slice_get w.order.listed (place_of ◌==◌ f w.order.listed) ≡ Some x) c.self.view_is c.member-member.ensures.found in
-    let mark = subst (λ (w : View). c.member-member.result.is_old ≡ not (nat_lt (place_of ◌==◌ f w.order.listed) (young_length w.numbers (length w.order.listed)))) c.self.view_is
-    (c.member-member.ensures.old ∙ ap (λ n. not (nat_lt (place_of ◌==◌ f a.parts.listed) (length a.parts.listed - n))) c.self.invariant.exact) in
-    let judged = c.moves.ensures (place_of ◌==◌ f v.order.listed) x refl refl mark in
-    sym (ap (λ b. cond {A = Touch} b Young Stayed) (young_is v f c.args.now x found false (sym c.if-moves.false ∙ judged)))
+    let x : Listed ℕ = record { key = c.args.frame; first = c.judge-moves.result.0.first; since = c.judge-moves.result.0.since } in
+    sym (ap (λ b. cond {A = Touch} b Young Stayed) (young_is c.args.self.now c.args.frame c.args.now x c.judge-moves.ensures.found false (sym c.if-moves.false ∙ c.judge-moves.ensures.moves)))
 
 pub invariant_of-self : goal.invariant_of-self
 invariant_of-self c =
@@ -99,11 +77,10 @@ invariant_of-self c =
     let is = returns-then-moves-clause-order c in
     let settled = c.settle.ensures in
     let exact = ap (λ (q : Parts). q.old_len) settled ∙ c.old_length-old.ensures.old a.time
-    ∙ ap (old_length (view_of a).numbers) (c.len.ensures ∙ ap (λ (q : Parts). length q.listed) (sym settled)) in
+    ∙ ap (old_length (view_of a).numbers) (c.len.ensures.len ∙ ap (λ (q : Parts). length q.listed) (sym settled)) in
     let len = length-touch ◌==◌ v.numbers c.args.frame c.args.now v.order in record {
       percent = c.self.invariant.percent;
       counted = c.self.invariant.counted;
-      few = subst (λ (w : View). length w.order.listed ≤ w.room) (sym is) (omega (arith, len, few_of a v c.self.view_is c.self.invariant));
       exact = exact;
       frames = subst AreFrames (sym is) (frames-touch v c.args.frame c.args.now (frames_of a v c.self.view_is c.self.invariant));
     }
@@ -112,13 +89,12 @@ pub invariant_of-self-else-moves : goal.invariant_of-self-else-moves
 invariant_of-self-else-moves c =
     let a = c.self.inside in
     let v = c.args.self.now in
-    let x : Listed ℕ = record { key = c.args.frame; first = c.member-member.result.first; since = c.member-member.result.since } in
+    let x : Listed ℕ = record { key = c.args.frame; first = c.judge-moves.result.0.first; since = c.judge-moves.result.0.since } in
     let is = returns-else-moves-clause-order c in
     let len = length-touch ◌==◌ v.numbers c.args.frame c.args.now v.order in
     let same = ap (λ (w : View). length w.order.listed) is ∙ len ∙ ap (λ (w : View). length w.order.listed) (sym c.self.view_is) in record {
       percent = c.self.invariant.percent;
       counted = c.self.invariant.counted;
-      few = subst (λ (w : View). length w.order.listed ≤ w.room) (sym is) (omega (arith, len, few_of a v c.self.view_is c.self.invariant));
-      exact = ap (λ (q : Parts). q.old_len) (c.set_first.ensures x c.member-member.ensures.found) ∙ c.self.invariant.exact ∙ ap (old_length (view_of a).numbers) (sym same);
+      exact = ap (λ (q : Parts). q.old_len) (c.set_first.ensures x (subst (λ (w : View). slice_get w.order.listed (place_of ◌==◌ c.args.frame w.order.listed) ≡ Some x) (sym c.self.view_is) c.judge-moves.ensures.found)) ∙ c.self.invariant.exact ∙ ap (old_length (view_of a).numbers) (sym same);
       frames = subst AreFrames (sym is) (frames-touch v c.args.frame c.args.now (frames_of a v c.self.view_is c.self.invariant));
     }

@@ -1,68 +1,38 @@
-use Rattle.std.proofs.Common.{◌≡◌, ◌∙◌, ◌+◌, ◌-◌, ◌++◌, ◌∷◌, ◌≤◌, ℕ, List, [], Some, None, false, true, length, set, drop, refl, sym, ap, subst, arith}
-use Rattle.std.specs.Prelude.{map, insert, slice_set}
-use Rattle.std.proofs.lemmas.List.{length-set}
-use Rattle.page_ids.specs.Midpoint.{Listed}
+use Rattle.std.proofs.Common.{◌≡◌, ◌∙◌, ◌-◌, ◌++◌, ◌∷◌, false, set, drop, refl, sym, ap, subst, arith}
+use Rattle.std.proofs.lemmas.List.{length-set, get_or_default}
+use Rattle.link_lists.specs.Grid.{times}
+use Rattle.link_lists.proofs.Times.{times-append, times_at, first_is}
 use Rattle.midpoint_lru.specs.declared.sublists.Member.{Member}
 use Rattle.midpoint_lru.specs.Parts.{Parts}
-use Rattle.midpoint_lru.specs.Sublists.{listed_of}
-use Rattle.std.proofs.lemmas.List.{get_or_default}
-use Rattle.link_lists.specs.Grid.{times}
-use Rattle.link_lists.specs.Chains.{IsChain}
-use Rattle.link_lists.proofs.Times.{times-append, times_at}
-use Rattle.midpoint_lru.proofs.Steps.{blank, narrower, first_is}
-use Rattle.midpoint_lru.proofs.Kept.{list_is, room_is, old_is, seen}
+use Rattle.midpoint_lru.proofs.Steps.{Leaves, blank, narrower}
+use Rattle.midpoint_lru.proofs.Kept.{list_is, room_is, old_is, seen, kept}
 use Rattle.midpoint_lru.proofs.sublists.Sublists.narrow.Goals as goal
+
+left : (c : goal.After-self-in-Some-2-1) → let m : Member = record c.index-member.result.now { is_old = false } in
+    Leaves c.self.inside.list (set c.self.inside.members.items c.in-Some.frame m) c.next-self-inside.result c.args.self.now.listed (c.self.inside.old_len - 1)
+left c =
+    let a = c.self.inside in
+    let p = c.args.self.now in
+    let k = c.self.invariant in
+    let f = c.in-Some.frame in
+    let ms = a.members.items in
+    let x = c.index-member.result.now in
+    let m : Member = record x { is_old = false } in
+    let starts : k.old ≡ f ∷ drop 1 k.old = first_is k.old f (sym k.are.first ∙ c.in-Some.is) in
+    let whole = k.are.whole.is ∙ ap (λ ys. k.young ++ ys) starts in
+    let l = k.are.there f (omega (arith, ap (λ ys. times f (k.young ++ ys)) starts, times-append f k.young (f ∷ drop 1 k.old), times_at f (drop 1 k.old))) in
+    let read = c.index-member.ensures ∙ get_or_default ms f x blank l in
+    subst (λ ys. Leaves a.list (set ms f m) c.next-self-inside.result ys (a.old_len - 1)) (list_is a p c.self.view_is k)
+    (narrower a.list ms a.first_old k.young k.old k.are f m a.old_len l k.share (drop 1 k.old) c.next-self-inside.result starts
+    (c.next-self-inside.ensures k.young (drop 1 k.old) whole) (ap (λ (y : Member). y.first) read) (ap (λ (y : Member). y.since) read) refl)
 
 pub returns : goal.returns
 returns c =
     let a = c.self.inside in
     let p = c.args.self.now in
     let k = c.self.invariant in
-    let laws = c.a_chain_is_one_list.ensures in
-    let xs = k.young ++ k.old in
-    let found = laws.found a.nodes a.chain xs k.are.chain in
-    let f = c.in-Some.frame in
-    let ms = a.members.items in
-    let starts : k.old ≡ f ∷ drop 1 k.old = first_is k.old f (sym k.are.first ∙ c.in-Some.is) in
-    let whole : IsChain a.nodes a.chain (k.young ++ f ∷ drop 1 k.old) = subst (λ ys. IsChain a.nodes a.chain (k.young ++ ys)) starts k.are.chain in
-    let inside : 1 ≤ times f xs = omega (arith, ap (λ ys. times f (k.young ++ ys)) starts, times-append f k.young (f ∷ drop 1 k.old), times_at f (drop 1 k.old)) in
-    let l = k.are.there f inside in
-    let x = c.index-member.result.now in
-    let read = c.index-member.ensures ∙ get_or_default ms f x blank l in
-    let m : Member = record x { is_old = false } in
-    let b = narrower a.nodes a.chain ms a.first_old k.young k.old k.are f m a.len a.old_len l k.len k.share (drop 1 k.old) c.next-self-inside.result starts
-    (c.next-self-inside.ensures k.young (drop 1 k.old) whole) (ap (λ (y : Member). y.first) read) (ap (λ (y : Member). y.since) read) refl in
-    let view = λ (ys : List (Listed ℕ)) (n : ℕ). let w : Parts = record { listed = ys; old_len = n - 1; room = p.room } in w in
-    let room = room_is a p c.self.view_is k found in
-    seen _ _ (set ms f m) _ _ _ (a.old_len - 1) p.room b (laws.found _ _ (b.young ++ b.old) b.are.chain) (omega (arith, room, length-set ms f m))
-    ∙ ap (λ ys. view ys a.old_len) (list_is a p c.self.view_is k found)
-    ∙ ap (view p.listed) (sym (old_is a p c.self.view_is k found))
+    seen _ _ _ _ (a.old_len - 1) p.room (left c) (sym (room_is a p c.self.view_is k))
+    ∙ ap (λ n. let w : Parts = record { listed = p.listed; old_len = n - 1; room = p.room } in w) (sym (old_is a p c.self.view_is k))
 
 pub invariant_of-self : goal.invariant_of-self
-invariant_of-self c =
-    let a = c.self.inside in
-    let p = c.args.self.now in
-    let k = c.self.invariant in
-    let laws = c.a_chain_is_one_list.ensures in
-    let xs = k.young ++ k.old in
-    let found = laws.found a.nodes a.chain xs k.are.chain in
-    let f = c.in-Some.frame in
-    let ms = a.members.items in
-    let starts : k.old ≡ f ∷ drop 1 k.old = first_is k.old f (sym k.are.first ∙ c.in-Some.is) in
-    let whole : IsChain a.nodes a.chain (k.young ++ f ∷ drop 1 k.old) = subst (λ ys. IsChain a.nodes a.chain (k.young ++ ys)) starts k.are.chain in
-    let inside : 1 ≤ times f xs = omega (arith, ap (λ ys. times f (k.young ++ ys)) starts, times-append f k.young (f ∷ drop 1 k.old), times_at f (drop 1 k.old)) in
-    let l = k.are.there f inside in
-    let x = c.index-member.result.now in
-    let read = c.index-member.ensures ∙ get_or_default ms f x blank l in
-    let m : Member = record x { is_old = false } in
-    let b = narrower a.nodes a.chain ms a.first_old k.young k.old k.are f m a.len a.old_len l k.len k.share (drop 1 k.old) c.next-self-inside.result starts
-    (c.next-self-inside.ensures k.young (drop 1 k.old) whole) (ap (λ (y : Member). y.first) read) (ap (λ (y : Member). y.since) read) refl in
-    let same = length-set ms f m in record {
-      young = b.young;
-      old = b.old;
-      are = b.are;
-      len = b.len_is;
-      share = b.share_is;
-      nodes = omega (arith, k.nodes, same);
-      fits = omega (arith, k.fits, same);
-    }
+invariant_of-self c = kept _ _ _ _ _ (left c) (omega (arith, c.self.invariant.room, length-set c.self.inside.members.items c.in-Some.frame (record c.index-member.result.now { is_old = false })))

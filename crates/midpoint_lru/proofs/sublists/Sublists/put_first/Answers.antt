@@ -1,66 +1,38 @@
-use Rattle.std.proofs.Common.{◌≡◌, ◌∙◌, ◌+◌, ◌-◌, ◌++◌, ◌∷◌, ℕ, List, [], Some, None, false, true, length, set, refl, sym, ap, subst, arith}
-use Rattle.std.specs.Prelude.{map, insert, slice_set}
+use Rattle.std.proofs.Common.{◌∙◌, ◌++◌, ◌∷◌, ℕ, false, set, refl, sym, ap, subst, arith}
 use Rattle.std.proofs.lemmas.List.{length-set}
+use Rattle.link_lists.specs.IndexLists.{IndexList}
 use Rattle.page_ids.specs.Midpoint.{Listed}
 use Rattle.midpoint_lru.specs.declared.sublists.Member.{Member}
 use Rattle.midpoint_lru.specs.Parts.{Parts}
-use Rattle.midpoint_lru.specs.Sublists.{listed_of}
-use Rattle.midpoint_lru.proofs.Steps.{with_first}
-use Rattle.midpoint_lru.proofs.Kept.{list_is, room_is, old_is, is_out, lacks, seen}
+use Rattle.midpoint_lru.proofs.Steps.{Leaves, with_first, in_list}
+use Rattle.midpoint_lru.proofs.Kept.{list_is, room_is, old_is, is_out, is_new, seen, kept}
 use Rattle.midpoint_lru.proofs.sublists.Sublists.put_first.Goals as goal
 
-pub push_front-requires-clause-absent : goal.push_front-requires-clause-absent
-push_front-requires-clause-absent c =
+pub push_front-requires : goal.push_front-requires
+push_front-requires c = is_new c.self.inside c.args.self.now c.self.view_is c.self.invariant c.args.frame c.requires
+
+left : (c : goal.After-stands_in_order) → let m : Member = record { first = c.args.first; since = c.args.since; is_old = false } in
+    Leaves c.push_front.new.self (set c.self.inside.members.items c.args.frame m) c.self.inside.first_old
+    (record { key = c.args.frame; first = c.args.first; since = c.args.since } ∷ c.args.self.now.listed) c.self.inside.old_len
+left c =
     let a = c.self.inside in
     let p = c.args.self.now in
     let k = c.self.invariant in
-    let laws = c.a_chain_is_one_list.ensures in
-    let xs = k.young ++ k.old in
-    let found = laws.found a.nodes a.chain xs k.are.chain in
-    lacks a p c.self.view_is k found c.args.frame c.requires.away
+    let f = c.args.frame in
+    let m : Member = record { first = c.args.first; since = c.args.since; is_old = false } in
+    let node : Listed ℕ = record { key = f; first = c.args.first; since = c.args.since } in
+    let ms = a.members.items in
+    let whole = in_list c.push_front.new.self (f ∷ k.young ++ k.old) c.stands_in_order.ensures (ap (λ (l : IndexList). l.items) c.push_front.ensures ∙ ap (λ ys. f ∷ ys) k.are.whole.is) in
+    subst (λ ys. Leaves c.push_front.new.self (set ms f m) a.first_old (node ∷ ys) a.old_len) (list_is a p c.self.view_is k)
+    (with_first a.list c.push_front.new.self ms a.first_old k.young k.old k.are f m a.old_len (omega (arith, c.requires.room, room_is a p c.self.view_is k, k.room)) (is_out a p c.self.view_is k f c.requires.away) refl k.share whole)
 
 pub returns : goal.returns
 returns c =
     let a = c.self.inside in
     let p = c.args.self.now in
     let k = c.self.invariant in
-    let laws = c.a_chain_is_one_list.ensures in
-    let xs = k.young ++ k.old in
-    let found = laws.found a.nodes a.chain xs k.are.chain in
-    let f = c.args.frame in
-    let ms = a.members.items in
-    let m : Member = record { first = c.args.first; since = c.args.since; is_old = false } in
-    let none = is_out a p c.self.view_is k found f c.requires.away in
-    let room = room_is a p c.self.view_is k found in
-    let chain = c.push_front.ensures.list xs k.are.chain in
-    let b = with_first a.nodes c.push_front.new.nodes a.chain c.push_front.new.self ms a.first_old k.young k.old k.are f m a.len a.old_len (omega (arith, c.requires.room, room)) none refl k.len k.share chain in
-    let view = λ (ys : List (Listed ℕ)) (n : ℕ). let w : Parts = record { listed = record { key = f; first = c.args.first; since = c.args.since } ∷ ys; old_len = n; room = p.room } in w in
-    seen _ _ (set ms f m) _ _ _ a.old_len p.room b (laws.found _ _ (b.young ++ b.old) b.are.chain) (omega (arith, room, length-set ms f m))
-    ∙ ap (λ ys. view ys a.old_len) (list_is a p c.self.view_is k found)
-    ∙ ap (view p.listed) (sym (old_is a p c.self.view_is k found))
+    seen _ _ _ _ a.old_len p.room (left c) (ap (λ (l : IndexList). l.room) c.push_front.ensures ∙ sym (room_is a p c.self.view_is k))
+    ∙ ap (λ n. let w : Parts = record { listed = record { key = c.args.frame; first = c.args.first; since = c.args.since } ∷ p.listed; old_len = n; room = p.room } in w) (sym (old_is a p c.self.view_is k))
 
 pub invariant_of-self : goal.invariant_of-self
-invariant_of-self c =
-    let a = c.self.inside in
-    let p = c.args.self.now in
-    let k = c.self.invariant in
-    let laws = c.a_chain_is_one_list.ensures in
-    let xs = k.young ++ k.old in
-    let found = laws.found a.nodes a.chain xs k.are.chain in
-    let f = c.args.frame in
-    let ms = a.members.items in
-    let m : Member = record { first = c.args.first; since = c.args.since; is_old = false } in
-    let none = is_out a p c.self.view_is k found f c.requires.away in
-    let room = room_is a p c.self.view_is k found in
-    let chain = c.push_front.ensures.list xs k.are.chain in
-    let b = with_first a.nodes c.push_front.new.nodes a.chain c.push_front.new.self ms a.first_old k.young k.old k.are f m a.len a.old_len (omega (arith, c.requires.room, room)) none refl k.len k.share chain in
-    let others = c.push_front.ensures.others xs k.are.chain in
-    let same = length-set ms f m in record {
-      young = b.young;
-      old = b.old;
-      are = b.are;
-      len = b.len_is;
-      share = b.share_is;
-      nodes = omega (arith, others.nodes, k.nodes, same);
-      fits = omega (arith, k.fits, same);
-    }
+invariant_of-self c = kept _ _ _ _ _ (left c) (omega (arith, c.self.invariant.room, ap (λ (l : IndexList). l.room) c.push_front.ensures, length-set c.self.inside.members.items c.args.frame (record { first = c.args.first; since = c.args.since; is_old = false })))

@@ -12,4 +12,4 @@ returns-clause-bytes c =
     let is : copied ≡ take n (drop at bytes) = search rules in
     let long : length copied ≡ n = grind (arith, common_steps, is) in
     let none : n ≡ 0 → length bytes ≤ at = λ zero_is. search rules in
-    record { ok = taken c.args.self.now.left bytes at n copied (drop n c.args.out.now) (ap (λ s. s.left) c.self.view_is) is long none (grind (arith, common_steps)); err = tt }
+    record { ok = taken c.args.self.now.left bytes at n copied (drop n c.args.out.now) (ap (λ s. s.left) c.self.view_is) is long none (grind (arith, common_steps)); err = tt; silent = λ untold. absurd (cc) }

@@ -4,11 +4,11 @@ use Rattle.std.proofs.lemmas.Grind.{flat_map-append}
 use Rattle.redo_mark.specs.Records.{sealed, head_of, record_of}
 use Rattle.redo_mark.specs.Pending.{joined}
 use Rattle.redo_mark.proofs.Chains.{whole_appended}
-use Rattle.redo_mark.proofs.Marks.{holds_appended, later_appended, kept_of_log, grown_longer}
+use Rattle.redo_mark.proofs.Marks.{holds_appended, longer_appended, later_appended, kept_of_log, grown_longer}
 use Rattle.redo_mark.proofs.redo.Redo.append.Goals as goal
 
 pub returns-then-start-len-clause-kept : goal.returns-then-start-len-clause-kept
-returns-then-start-len-clause-kept g c = rw (← c.self.view_is) (kept_of_log _ _ _ _ (g.R.RedoDisk.fault_count c.self.inside.disk) _ _ c.self.invariant.low c.self.invariant.ends c.self.invariant.settled)
+returns-then-start-len-clause-kept g c = rw (← c.self.view_is) (kept_of_log _ _ _ _ (g.R.RedoDisk.seen c.self.inside.disk).faults _ _ c.self.invariant.low c.self.invariant.ends c.self.invariant.settled)
 
 pub returns-clause-record : goal.returns-clause-record
 returns-clause-record g c =
@@ -18,13 +18,27 @@ returns-clause-record g c =
     let is : joined c.append.new.self ≡ joined c.self.inside.pending ++ sealed c.args.draft c.self.inside.end =
     ap joined whole ∙ flat_map-append (λ v. v.items) c.self.inside.pending c.seal_node.new.node ∙ ap (λ l. joined c.self.inside.pending ++ l) piece in
     let size : length (sealed c.args.draft c.self.inside.end) ≡ c.draft_len-len.result + 8 = length-append c.args.draft _ ∙ ap (λ n. n + 8) (sym len) in
-    rw (← size) (holds_appended c.self.inside.first c.self.inside.durable c.self.inside.end _ _ _ _ (g.R.RedoDisk.told c.self.inside.disk) c.self.inside.pending c.append.new.self
+    rw (← size) (holds_appended c.self.inside.first c.self.inside.durable c.self.inside.end _ _ _ _ (g.R.RedoDisk.seen c.self.inside.disk).told c.self.inside.pending c.append.new.self
     (sealed c.args.draft c.self.inside.end) c.self.invariant is)
+
+pub returns-clause-exact : goal.returns-clause-exact
+returns-clause-exact g c =
+    let len : c.draft_len-len.result ≡ length c.args.draft = search rules in
+    let whole : c.append.new.self ≡ c.self.inside.pending ++ c.seal_node.new.node = search rules in
+    let piece : joined c.seal_node.new.node ≡ sealed c.args.draft c.self.inside.end = search rules in
+    let is : joined c.append.new.self ≡ joined c.self.inside.pending ++ sealed c.args.draft c.self.inside.end =
+    ap joined whole ∙ flat_map-append (λ v. v.items) c.self.inside.pending c.seal_node.new.node ∙ ap (λ l. joined c.self.inside.pending ++ l) piece in
+    let size : length (sealed c.args.draft c.self.inside.end) ≡ c.draft_len-len.result + 8 = length-append c.args.draft _ ∙ ap (λ n. n + 8) (sym len) in
+    rw (← c.self.view_is) (
+      search rules,
+      rw (← size) (longer_appended c.self.inside.first c.self.inside.durable c.self.inside.end _ _ (g.R.RedoDisk.seen c.self.inside.disk).told
+          c.self.inside.pending c.append.new.self (sealed c.args.draft c.self.inside.end) is),
+    )
 
 pub returns-clause-later : goal.returns-clause-later
 returns-clause-later g c =
     let whole : c.append.new.self ≡ c.self.inside.pending ++ c.seal_node.new.node = search rules in
-    rw (← c.self.view_is) (later_appended c.self.inside.first c.self.inside.durable c.self.inside.end _ _ (c.draft_len-len.result + 8) (g.R.RedoDisk.told c.self.inside.disk)
+    rw (← c.self.view_is) (later_appended c.self.inside.first c.self.inside.durable c.self.inside.end _ _ (c.draft_len-len.result + 8) (g.R.RedoDisk.seen c.self.inside.disk).told
     c.self.inside.pending c.append.new.self (joined c.seal_node.new.node) (ap joined whole ∙ flat_map-append (λ v. v.items) c.self.inside.pending c.seal_node.new.node))
 
 pub returns-clause-kept : goal.returns-clause-kept
@@ -36,7 +50,7 @@ returns-clause-kept g c =
     ap joined whole ∙ flat_map-append (λ v. v.items) c.self.inside.pending c.seal_node.new.node ∙ ap (λ l. joined c.self.inside.pending ++ l) piece in
     let size : length (sealed c.args.draft c.self.inside.end) ≡ c.draft_len-len.result + 8 = length-append c.args.draft _ ∙ ap (λ n. n + 8) (sym len) in
     let sum = ap length is ∙ length-append (joined c.self.inside.pending) (sealed c.args.draft c.self.inside.end) in
-    kept_of_log _ _ _ _ (g.R.RedoDisk.fault_count c.self.inside.disk) _ _ c.self.invariant.low (omega (arith, sum, size, c.self.invariant.ends)) c.self.invariant.settled
+    kept_of_log _ _ _ _ (g.R.RedoDisk.seen c.self.inside.disk).faults _ _ c.self.invariant.low (omega (arith, sum, size, c.self.invariant.ends)) c.self.invariant.settled
 
 pub returns-clause-whole : goal.returns-clause-whole
 returns-clause-whole g c =

@@ -5,17 +5,17 @@ use Rattle.redo_mark.proofs.Marks.{kept_of_log, later_same, settled_uncovered, b
 use Rattle.redo_mark.proofs.redo.Redo.cover.Goals as goal
 
 pub returns-then-lsn-self-clause-kept : goal.returns-then-lsn-self-clause-kept
-returns-then-lsn-self-clause-kept g c = rw (← c.self.view_is) (kept_of_log _ _ _ _ (g.R.RedoDisk.fault_count c.self.inside.disk) _ _ c.self.invariant.low c.self.invariant.ends c.self.invariant.settled)
+returns-then-lsn-self-clause-kept g c = rw (← c.self.view_is) (kept_of_log _ _ _ _ (g.R.RedoDisk.seen c.self.inside.disk).faults _ _ c.self.invariant.low c.self.invariant.ends c.self.invariant.settled)
 
 pub returns-then-lsn-self-2-clause-kept : goal.returns-then-lsn-self-2-clause-kept
-returns-then-lsn-self-2-clause-kept g c = rw (← c.self.view_is) (kept_of_log _ _ _ _ (g.R.RedoDisk.fault_count c.self.inside.disk) _ _ c.self.invariant.low c.self.invariant.ends c.self.invariant.settled)
+returns-then-lsn-self-2-clause-kept g c = rw (← c.self.view_is) (kept_of_log _ _ _ _ (g.R.RedoDisk.seen c.self.inside.disk).faults _ _ c.self.invariant.low c.self.invariant.ends c.self.invariant.settled)
 
 pub invariant_of-self : goal.invariant_of-self
 invariant_of-self g c =
-    let opened = g.R.RedoDisk.opened c.self.inside.disk in
+    let opened = (g.R.RedoDisk.seen c.self.inside.disk).opened in
     let n = c.self.inside.durable - c.self.inside.first in
-    let told = g.R.RedoDisk.told c.write_through.new.disk in
-    let same : g.R.RedoDisk.opened c.write_through.new.disk ≡ opened = search rules in
+    let told = (g.R.RedoDisk.seen c.write_through.new.disk).told in
+    let same : (g.R.RedoDisk.seen c.write_through.new.disk).opened ≡ opened = search rules in
     let settled : IfSome told (IsSettled opened n) = settled_uncovered opened n _ _ _ (omega (arith, c.self.invariant.low)) c.self.invariant.settled c.in-Err.ensures.err in
     record {
       low = rw same c.self.invariant.low;
@@ -30,12 +30,12 @@ invariant_of-self g c =
 
 pub returns-in-Err-clause-kept : goal.returns-in-Err-clause-kept
 returns-in-Err-clause-kept g c =
-    let opened = g.R.RedoDisk.opened c.self.inside.disk in
+    let opened = (g.R.RedoDisk.seen c.self.inside.disk).opened in
     let n = c.self.inside.durable - c.self.inside.first in
-    let told = g.R.RedoDisk.told c.write_through.new.disk in
-    let same : g.R.RedoDisk.opened c.write_through.new.disk ≡ opened = search rules in
+    let told = (g.R.RedoDisk.seen c.write_through.new.disk).told in
+    let same : (g.R.RedoDisk.seen c.write_through.new.disk).opened ≡ opened = search rules in
     let settled : IfSome told (IsSettled opened n) = settled_uncovered opened n _ _ _ (omega (arith, c.self.invariant.low)) c.self.invariant.settled c.in-Err.ensures.err in
-    rw same (kept_of_log _ _ _ _ (g.R.RedoDisk.fault_count c.write_through.new.disk) _ _ c.self.invariant.low c.self.invariant.ends settled)
+    rw same (kept_of_log _ _ _ _ (g.R.RedoDisk.seen c.write_through.new.disk).faults _ _ c.self.invariant.low c.self.invariant.ends settled)
 
 pub returns-clause-kept : goal.returns-clause-kept
 returns-clause-kept g c =
@@ -43,55 +43,55 @@ returns-clause-kept g c =
     let n = c.self.inside.durable - c.self.inside.first in
     let to = c.self.inside.end - c.self.inside.first in
     let disk = c.write_through.new.disk in
-    let same : g.R.RedoDisk.opened disk ≡ g.R.RedoDisk.opened c.self.inside.disk = search rules in
+    let same : (g.R.RedoDisk.seen disk).opened ≡ (g.R.RedoDisk.seen c.self.inside.disk).opened = search rules in
     let none : length (joined c.clear.new.self) ≡ 0 = ap (λ l. length (joined l)) c.clear.ensures in
-    let far : to ≤ g.R.RedoDisk.reach disk = omega (arith, c.in-Ok.ensures.reached, c.self.invariant.low, c.self.invariant.ends) in
-    let settled : IfSome (g.R.RedoDisk.told disk) (IsSettled (g.R.RedoDisk.opened disk) to) =
+    let far : to ≤ (g.R.RedoDisk.seen disk).reach = omega (arith, c.in-Ok.ensures.reached, c.self.invariant.low, c.self.invariant.ends) in
+    let settled : IfSome (g.R.RedoDisk.seen disk).told (IsSettled (g.R.RedoDisk.seen disk).opened to) =
     settled_durable _ n to (joined c.self.inside.pending) _ _ (farther to _ _ far (laws.sized disk).written) c.in-Ok.ensures.ok in
-    kept_of_log _ _ _ _ (g.R.RedoDisk.fault_count disk) _ _ (omega (arith, same, c.self.invariant.low, c.self.invariant.ends)) (omega (arith, none)) settled
+    kept_of_log _ _ _ _ (g.R.RedoDisk.seen disk).faults _ _ (omega (arith, same, c.self.invariant.low, c.self.invariant.ends)) (omega (arith, none)) settled
 
 pub returns-clause-later : goal.returns-clause-later
 returns-clause-later g c =
     let laws = g.met.R.RedoDisk g.world.𝓛 g.world.𝓜 g.world.𝓡 ((λ s x. x), (λ x. x), (λ x. x), λ x. x) in
-    let opened = g.R.RedoDisk.opened c.self.inside.disk in
+    let opened = (g.R.RedoDisk.seen c.self.inside.disk).opened in
     let n = c.self.inside.durable - c.self.inside.first in
     let disk = c.write_through.new.disk in
-    let same : g.R.RedoDisk.opened disk ≡ opened = search rules in
+    let same : (g.R.RedoDisk.seen disk).opened ≡ opened = search rules in
     let to : c.self.inside.end - c.self.inside.first ≡ n + length (joined c.self.inside.pending) = omega (arith, c.self.invariant.low, c.self.invariant.ends) in
-    let inside = farther n _ (g.R.RedoDisk.told c.self.inside.disk) c.self.invariant.reached (laws.sized c.self.inside.disk).written in
-    let bytes : bytes_of (g.R.RedoDisk.opened disk) (c.self.inside.end - c.self.inside.first) (g.R.RedoDisk.told disk) c.clear.new.self
-    ≡ bytes_of opened n (g.R.RedoDisk.told c.self.inside.disk) c.self.inside.pending =
+    let inside = farther n _ (g.R.RedoDisk.seen c.self.inside.disk).told c.self.invariant.reached (laws.sized c.self.inside.disk).written in
+    let bytes : bytes_of (g.R.RedoDisk.seen disk).opened (c.self.inside.end - c.self.inside.first) (g.R.RedoDisk.seen disk).told c.clear.new.self
+    ≡ bytes_of opened n (g.R.RedoDisk.seen c.self.inside.disk).told c.self.inside.pending =
     rw (same, to, c.clear.ensures) (bytes_durable opened n _ _ c.self.inside.pending (omega (arith, c.self.invariant.low)) inside c.self.invariant.settled c.in-Ok.ensures.ok) in
     rw (← c.self.view_is) (later_same _ _ refl (ap (λ k. c.self.inside.first + k) same) (omega (arith, c.self.invariant.ends)) (omega arith) c.write_through.ensures.later bytes)
 
 pub returns-clause-whole : goal.returns-clause-whole
 returns-clause-whole g c =
     let laws = g.met.R.RedoDisk g.world.𝓛 g.world.𝓜 g.world.𝓡 ((λ s x. x), (λ x. x), (λ x. x), λ x. x) in
-    let opened = g.R.RedoDisk.opened c.self.inside.disk in
+    let opened = (g.R.RedoDisk.seen c.self.inside.disk).opened in
     let n = c.self.inside.durable - c.self.inside.first in
     let disk = c.write_through.new.disk in
-    let same : g.R.RedoDisk.opened disk ≡ opened = search rules in
+    let same : (g.R.RedoDisk.seen disk).opened ≡ opened = search rules in
     let to : c.self.inside.end - c.self.inside.first ≡ n + length (joined c.self.inside.pending) = omega (arith, c.self.invariant.low, c.self.invariant.ends) in
-    let inside = farther n _ (g.R.RedoDisk.told c.self.inside.disk) c.self.invariant.reached (laws.sized c.self.inside.disk).written in
-    let bytes : bytes_of (g.R.RedoDisk.opened disk) (c.self.inside.end - c.self.inside.first) (g.R.RedoDisk.told disk) c.clear.new.self
-    ≡ bytes_of opened n (g.R.RedoDisk.told c.self.inside.disk) c.self.inside.pending =
+    let inside = farther n _ (g.R.RedoDisk.seen c.self.inside.disk).told c.self.invariant.reached (laws.sized c.self.inside.disk).written in
+    let bytes : bytes_of (g.R.RedoDisk.seen disk).opened (c.self.inside.end - c.self.inside.first) (g.R.RedoDisk.seen disk).told c.clear.new.self
+    ≡ bytes_of opened n (g.R.RedoDisk.seen c.self.inside.disk).told c.self.inside.pending =
     rw (same, to, c.clear.ensures) (bytes_durable opened n _ _ c.self.inside.pending (omega (arith, c.self.invariant.low)) inside c.self.invariant.settled c.in-Ok.ensures.ok) in
     rw (bytes, same) c.self.invariant.whole
 
 pub invariant_of-self-2 : goal.invariant_of-self-2
 invariant_of-self-2 g c =
     let laws = g.met.R.RedoDisk g.world.𝓛 g.world.𝓜 g.world.𝓡 ((λ s x. x), (λ x. x), (λ x. x), λ x. x) in
-    let opened = g.R.RedoDisk.opened c.self.inside.disk in
+    let opened = (g.R.RedoDisk.seen c.self.inside.disk).opened in
     let n = c.self.inside.durable - c.self.inside.first in
     let disk = c.write_through.new.disk in
-    let same : g.R.RedoDisk.opened disk ≡ opened = search rules in
+    let same : (g.R.RedoDisk.seen disk).opened ≡ opened = search rules in
     let to : c.self.inside.end - c.self.inside.first ≡ n + length (joined c.self.inside.pending) = omega (arith, c.self.invariant.low, c.self.invariant.ends) in
-    let inside = farther n _ (g.R.RedoDisk.told c.self.inside.disk) c.self.invariant.reached (laws.sized c.self.inside.disk).written in
-    let bytes : bytes_of (g.R.RedoDisk.opened disk) (c.self.inside.end - c.self.inside.first) (g.R.RedoDisk.told disk) c.clear.new.self
-    ≡ bytes_of opened n (g.R.RedoDisk.told c.self.inside.disk) c.self.inside.pending =
+    let inside = farther n _ (g.R.RedoDisk.seen c.self.inside.disk).told c.self.invariant.reached (laws.sized c.self.inside.disk).written in
+    let bytes : bytes_of (g.R.RedoDisk.seen disk).opened (c.self.inside.end - c.self.inside.first) (g.R.RedoDisk.seen disk).told c.clear.new.self
+    ≡ bytes_of opened n (g.R.RedoDisk.seen c.self.inside.disk).told c.self.inside.pending =
     rw (same, to, c.clear.ensures) (bytes_durable opened n _ _ c.self.inside.pending (omega (arith, c.self.invariant.low)) inside c.self.invariant.settled c.in-Ok.ensures.ok) in
     let none : length (joined c.clear.new.self) ≡ 0 = ap (λ l. length (joined l)) c.clear.ensures in
-    let far : c.self.inside.end - c.self.inside.first ≤ g.R.RedoDisk.reach disk = omega (arith, to, c.in-Ok.ensures.reached) in
+    let far : c.self.inside.end - c.self.inside.first ≤ (g.R.RedoDisk.seen disk).reach = omega (arith, to, c.in-Ok.ensures.reached) in
     record {
       low = omega (arith, same, c.self.invariant.low, c.self.invariant.ends);
       ends = omega (arith, none);

@@ -7,5 +7,5 @@ pub returns-clause-kept : goal.returns-clause-kept
 returns-clause-kept g c =
     let none : length (joined c.new.result) ≡ 0 = ap (λ l. length (joined l)) c.new.ensures in
     let laws = g.met.R.RedoDisk g.world.𝓛 g.world.𝓜 g.world.𝓡 ((λ s x. x), (λ x. x), (λ x. x), λ x. x) in
-    kept_of_log _ _ _ _ (g.R.RedoDisk.fault_count c.args.disk) _ _ (omega (arith, c.end.ensures)) (omega (arith, none))
+    kept_of_log _ _ _ _ (g.R.RedoDisk.seen c.args.disk).faults _ _ (omega (arith, c.end.ensures)) (omega (arith, none))
     (settled_fresh _ _ _ (omega (arith, c.end.ensures)) (laws.sized c.args.disk).kept)

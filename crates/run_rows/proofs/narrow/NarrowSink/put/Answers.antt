@@ -8,7 +8,7 @@ use Rattle.run_rows.proofs.narrow.NarrowSink.put.Goals as goal
 -- what a call took of the front of a piece it took of the piece
 of_the_front : (before after : Option (List ℕ)) (r : Result ℕ Failed) (k : ℕ) (piece : List ℕ) → k ≤ length piece
     → Puts before after r (take k piece) → Puts before after r piece
-of_the_front before after r k piece le p = record { ok = IfOk-weaker r (λ n. GoesTo before after n (take k piece)) (λ n. GoesTo before after n piece) wide p.ok; err = p.err }
+of_the_front before after r k piece le p = record { ok = IfOk-weaker r (λ n. GoesTo before after n (take k piece)) (λ n. GoesTo before after n piece) wide p.ok; err = p.err; silent = p.silent }
   where
     long : length (take k piece) ≡ k
     long = length-take-le k piece le

@@ -1,0 +1,9 @@
+pub mod Basics
+pub mod Dirt
+pub mod Walks
+pub mod ListsNew
+pub mod ListsOrder
+pub mod ListsFlush
+pub mod ListsKept
+pub mod ListsMaking
+pub mod ListsWalk

@@ -1,0 +1,469 @@
+-- The lists stay those of the history as entries come.
+use Rattle.std.proofs.Common.{◌≡◌, ◌≢◌, ◌∙◌, ◌==◌, ◌+◌, ◌<◌, ◌≤◌, ◌++◌, ℕ, Bool, true, false, not, cond, List, [], ◌∷◌, length, set, drop, take, reverse, Option, Some, None, refl, sym, ap, subst, arith, inl, inr, eq-eqb}
+use Rattle.std.specs.Option.{option_map, option_map_or}
+use Rattle.std.proofs.lemmas.List.{reverse-append, get_or-set_same, get_or-set_other, length-set}
+use Rattle.std.proofs.lemmas.Bool.{cases_eq}
+use Rattle.page_ids.specs.Midpoint.{Numbers, Order, numbers_of, read_in, touch, evict}
+use Rattle.page_ids.specs.Same.{same_page}
+use Rattle.page_ids.specs.declared.ids.PageId.{PageId}
+use Rattle.page_ids.specs.declared.config.Config.{Config}
+use Rattle.page_ids.specs.declared.frame_word.Word.{Word}
+use Rattle.midpoint_lru.specs.View.{View}
+use Rattle.flush_list.specs.View.{View as Flush}
+use Rattle.trail.specs.declared.event.Call.{Call}
+use Rattle.trail.specs.declared.event.Cause.{Cause}
+use Rattle.trail.specs.declared.event.Dirty.{Dirty}
+use Rattle.trail.specs.declared.event.Entry.{Entry}
+use Rattle.trail.specs.declared.event.Kind.{Kind}
+use Rattle.trail.specs.declared.event.Kind.TheVariants as kind
+use Rattle.trail.specs.Trails.{mark}
+use Rattle.trail.specs.History.{home, home_after}
+use Rattle.trail.specs.Book.{Book, Hand, book, book_after, give_next, is_late, without, front, frame_in_turn, use_frame}
+use Rattle.trail.specs.Dirt.{dirty, dirty_after, is_dirty, log_end, log_end_after}
+use Rattle.trail.specs.Order.{order, order_after}
+use Rattle.instance_lists.specs.Ledger.{IsVacant}
+use Rattle.instance_lists.specs.KeptLists.{AreKept, KeepsHomes, KeepsBook, KeepsDirty, Absent, AreFrames, in_turn, plain_book, page_in, is_quiet, AreOthersUsed, newest_in, after_change, after_write}
+use Rattle.instance_lists.proofs.Basics.{some_same, none_some}
+use Rattle.instance_lists.proofs.Dirt.{no_way, same_self, same_is, same_turned}
+use Rattle.instance_lists.proofs.ListsFlush.{dirt_on, dirt_load, dirt_evict, dirt_put, dirt_write, dirt_write_away}
+use Rattle.instance_lists.proofs.ListsOrder.{order_on, order_fix, order_load, order_evict}
+
+-- The frames in turn.
+pub front_turn : (hand : Option ℕ) (free : List ℕ) → option_map_or (λ (f : ℕ). Some f) hand (front free) ≡ front (in_turn hand free)
+front_turn None free = refl
+front_turn (Some f) free = refl
+
+pub front_is : (l : List ℕ) (f : ℕ) → front l ≡ Some f → l ≡ f ∷ drop 1 l
+front_is [] f e = absurd (none_some f e)
+front_is (g ∷ gs) f e = ap (λ (m : ℕ). m ∷ gs) (some_same g f e)
+
+pub front_none : (l : List ℕ) → front l ≡ None → l ≡ []
+front_none [] e = refl
+front_none (g ∷ gs) e = absurd (none_some g (sym e))
+
+pub turn_empty : (hand : Option ℕ) (free : List ℕ) → in_turn hand free ≡ [] → (hand ≡ None) × (free ≡ [])
+turn_empty None free e = (refl, e)
+turn_empty (Some f) free e = absurd (cc)
+
+without_absent : (f : ℕ) (l : List ℕ) → Absent f l → without f l ≡ l
+without_absent f [] away = refl
+without_absent f (g ∷ gs) away = elim (cases_eq f g) [
+  | inl e ↦ absurd (away.0 e)
+  | inr ne ↦ ap (λ (b : Bool). cond b gs (g ∷ without f gs)) (Rattle.std.proofs.lemmas.Bool.ne_eqb f g ne) ∙ ap (λ (l : List ℕ). g ∷ l) (without_absent f gs away.1)
+]
+
+-- what is left of the free frames as the next one is taken
+without_next : (hand : Option ℕ) (free : List ℕ) (f : ℕ) (rest : List ℕ) → in_turn hand free ≡ f ∷ rest → Absent f rest → without f free ≡ rest
+without_next None [] f rest e away = absurd (cc)
+without_next None (g ∷ gs) f rest e away =
+    let here : g ≡ f = cc in
+    let others : gs ≡ rest = cc in
+    ap (λ (b : Bool). cond b gs (g ∷ without f gs)) (eq-eqb f g (sym here)) ∙ others
+without_next (Some g) free f rest e away =
+    let others : free ≡ rest = cc in
+    ap (without f) others ∙ without_absent f rest away
+
+absent_last : (f g : ℕ) (fs : List ℕ) → f ≢ g → Absent f fs → Absent f (fs ++ g ∷ [])
+absent_last f g [] ne a = (ne, tt)
+absent_last f g (x ∷ fs) ne a = (a.0, absent_last f g fs ne a.1)
+
+frames_last : (n g : ℕ) (fs : List ℕ) → g < n → Absent g fs → AreFrames n fs → AreFrames n (fs ++ g ∷ [])
+frames_last n g [] lt a fs = (lt, tt, tt)
+frames_last n g (x ∷ xs) lt a fs = (fs.0, absent_last x g xs (λ e. a.0 (sym e)) fs.1, frames_last n g xs lt a.1 fs.2)
+
+absent_before_last : (f g : ℕ) (fs : List ℕ) → Absent f (fs ++ g ∷ []) → (f ≢ g) × Absent f fs
+absent_before_last f g [] a = (a.0, tt)
+absent_before_last f g (x ∷ fs) a = let rest = absent_before_last f g fs a.1 in (rest.0, (a.0, rest.1))
+
+length-last : (fs : List ℕ) (g : ℕ) → length (fs ++ g ∷ []) ≡ length fs + 1
+length-last [] g = omega arith
+length-last (x ∷ fs) g = let rest = length-last fs g in omega (arith, rest)
+
+-- who is taken has no page
+pub vacant_from : (c : Config) (h : List Entry) (free : List ℕ) (hand : Option ℕ) (f : ℕ) (rest : List ℕ) → KeepsBook c h free hand → in_turn hand free ≡ f ∷ rest → IsVacant h f
+vacant_from c h free hand f rest k e p here =
+    let away : Absent f (f ∷ rest) = subst (λ (l : List ℕ). Absent f l) e (k.taken p f here) in
+    away.0 refl
+
+owned_turn : (owned : Option Hand) (free : List ℕ) → option_map_or (λ (x : Hand). Some x.frame) owned (front free) ≡ front (in_turn (option_map (λ (x : Hand). x.frame) owned) free)
+owned_turn None free = refl
+owned_turn (Some x) free = refl
+
+no_owner : (owned : Option Hand) → option_map (λ (x : Hand). x.frame) owned ≡ None → owned ≡ None
+no_owner None e = refl
+no_owner (Some x) e = absurd (cc)
+
+-- the next frame is the first in turn
+pub next_is : (c : Config) (h : List Entry) (free : List ℕ) (hand : Option ℕ) → KeepsBook c h free hand → frame_in_turn (book c h) ≡ front (in_turn hand free)
+next_is c h free hand k = ap frame_in_turn k.book_is ∙ owned_turn k.owned free ∙ ap (λ (o : Option ℕ). front (in_turn o free)) k.hand_is
+
+-- Homes.
+pub homes_on : (c : Config) (h new : List Entry) (homes : PageId → Option ℕ) (tenants : List PageId) → ((p : PageId) → home new p ≡ home h p) → KeepsHomes c h homes tenants → KeepsHomes c new homes tenants
+homes_on c h new homes tenants same k = record {
+  homes_are = λ p. k.homes_are p ∙ sym (same p);
+  housed = λ p f here. k.housed p f (sym (same p) ∙ here);
+  tenants_are = λ p f here. k.tenants_are p f (sym (same p) ∙ here);
+  tenant_count = k.tenant_count;
+}
+
+homes_load : (c : Config) (h new : List Entry) (homes more : PageId → Option ℕ) (tenants : List PageId) (p : PageId) (f : ℕ)
+    → ((q : PageId) → home new q ≡ cond (same_page p q) (Some f) (home h q)) → ((q : PageId) → more q ≡ cond (same_page p q) (Some f) (homes q))
+    → f < c.frames → IsVacant h f → KeepsHomes c h homes tenants → KeepsHomes c new more (set tenants f p)
+homes_load c h new homes more tenants p f after grown below none k = record {
+  homes_are = λ q. grown q ∙ ap (cond (same_page p q) (Some f)) (k.homes_are q) ∙ sym (after q);
+  housed = λ q g here. housed q g (same_page p q) (sym (after q) ∙ here);
+  tenants_are = λ q g here. tenant q g (same_page p q) refl (sym (after q) ∙ here);
+  tenant_count = length-set tenants f p ∙ k.tenant_count;
+}
+  where
+    nowhere : PageId
+    nowhere = record { space = 0; page = 0 }
+
+    housed : (q : PageId) (g : ℕ) (b : Bool) → cond b (Some f) (home h q) ≡ Some g → g < c.frames
+    housed q g true here = omega (arith, below, some_same f g here)
+    housed q g false here = k.housed q g here
+
+    tenant : (q : PageId) (g : ℕ) (b : Bool) → same_page p q ≡ b → cond b (Some f) (home h q) ≡ Some g → page_in (set tenants f p) g ≡ q
+    tenant q g true same here =
+        ap (page_in (set tenants f p)) (sym (some_same f g here)) ∙ get_or-set_same tenants f p nowhere (omega (arith, below, k.tenant_count)) ∙ same_is p q same
+    tenant q g false same here =
+        get_or-set_other tenants f g p nowhere (λ e. none q (here ∙ ap (λ (m : ℕ). Some m) e)) ∙ k.tenants_are q g here
+
+homes_evict : (c : Config) (h new : List Entry) (homes less : PageId → Option ℕ) (tenants : List PageId) (p : PageId)
+    → ((q : PageId) → home new q ≡ cond (same_page p q) None (home h q)) → ((q : PageId) → less q ≡ cond (same_page p q) None (homes q))
+    → KeepsHomes c h homes tenants → KeepsHomes c new less tenants
+homes_evict c h new homes less tenants p after grown k = record {
+  homes_are = λ q. grown q ∙ ap (cond (same_page p q) None) (k.homes_are q) ∙ sym (after q);
+  housed = λ q g here. k.housed q g (was q g (same_page p q) (sym (after q) ∙ here));
+  tenants_are = λ q g here. k.tenants_are q g (was q g (same_page p q) (sym (after q) ∙ here));
+  tenant_count = k.tenant_count;
+}
+  where
+    was : (q : PageId) (g : ℕ) (b : Bool) → cond b None (home h q) ≡ Some g → home h q ≡ Some g
+    was q g true here = absurd (none_some g here)
+    was q g false here = here
+
+-- The book.
+pub book_on : (c : Config) (h new : List Entry) (free : List ℕ) (hand : Option ℕ) → ((p : PageId) → home new p ≡ home h p) → book c new ≡ book c h → KeepsBook c h free hand → KeepsBook c new free hand
+book_on c h new free hand same stays k = record {
+  owned = k.owned;
+  hand_is = k.hand_is;
+  book_is = stays ∙ k.book_is;
+  distinct = k.distinct;
+  taken = λ p f here. k.taken p f (sym (same p) ∙ here);
+}
+
+book_load : (c : Config) (h new : List Entry) (free rest : List ℕ) (hand : Option ℕ) (p : PageId) (f : ℕ)
+    → ((q : PageId) → home new q ≡ cond (same_page p q) (Some f) (home h q)) → book c new ≡ use_frame f (book c h) → in_turn hand free ≡ f ∷ rest
+    → KeepsBook c h free hand → KeepsBook c new rest None
+book_load c h new free rest hand p f after used turn k =
+    let frames : AreFrames c.frames (f ∷ rest) = subst (λ (l : List ℕ). AreFrames c.frames l) turn k.distinct in
+    record {
+      owned = None;
+      hand_is = refl;
+      book_is = used ∙ ap (use_frame f) k.book_is ∙ ap (λ (l : List ℕ). plain_book c l None) (without_next hand free f rest turn frames.1);
+      distinct = frames.2;
+      taken = λ q g here. taken q g frames.1 (same_page p q) (sym (after q) ∙ here);
+    }
+  where
+    taken : (q : PageId) (g : ℕ) → Absent f rest → (b : Bool) → cond b (Some f) (home h q) ≡ Some g → Absent g rest
+    taken q g away true here = subst (λ (m : ℕ). Absent m rest) (some_same f g here) away
+    taken q g away false here = let all : Absent g (f ∷ rest) = subst (λ (l : List ℕ). Absent g l) turn (k.taken q g here) in all.1
+
+book_evict : (c : Config) (h new : List Entry) (homes : PageId → Option ℕ) (tenants : List PageId) (free : List ℕ) (hand : Option ℕ) (e : Entry) (p : PageId) (f : ℕ) (passed : List (ℕ × Word))
+    → ((q : PageId) → home new q ≡ cond (same_page p q) None (home h q)) → book c new ≡ book_after c.frames e (kind.Evict p f passed) (book c h) → in_turn hand free ≡ [] → home h p ≡ Some f
+    → KeepsHomes c h homes tenants → KeepsBook c h free hand → KeepsBook c new free (Some f)
+book_evict c h new homes tenants free hand e p f passed after used turn here homed k = record {
+  owned = Some (record { frame = f; caller = e.caller; number = e.number });
+  hand_is = refl;
+  book_is = used ∙ ap (book_after c.frames e (kind.Evict p f passed)) k.book_is;
+  distinct = subst (λ (l : List ℕ). AreFrames c.frames (f ∷ l)) (sym none.1) (homed.housed p f here, tt, tt);
+  taken = λ q g there. subst (λ (l : List ℕ). Absent g (f ∷ l)) (sym none.1) (away q g (same_page p q) refl (sym (after q) ∙ there), tt);
+}
+  where
+    none : (hand ≡ None) × (free ≡ [])
+    none = turn_empty hand free turn
+
+    away : (q : PageId) (g : ℕ) (b : Bool) → same_page p q ≡ b → cond b None (home h q) ≡ Some g → g ≢ f
+    away q g true same there e = none_some g there
+    away q g false same there e =
+        let one : p ≡ q = sym (homed.tenants_are p f here) ∙ ap (page_in tenants) (sym e) ∙ homed.tenants_are q g there in
+        no_way (sym (ap (same_page p) (sym one) ∙ same_self p) ∙ same)
+
+-- a refusal behind its frame: the first frame in turn goes to the back of the free ones
+book_late : (c : Config) (h new : List Entry) (free : List ℕ) (hand : Option ℕ) → ((p : PageId) → home new p ≡ home h p) → book c new ≡ give_next c.frames (book c h)
+    → KeepsBook c h free hand → KeepsBook c new (drop 1 (in_turn hand free) ++ take 1 (in_turn hand free)) None
+book_late c h new free hand same gave k = by_turn (in_turn hand free) refl
+  where
+    given : (l : List ℕ) → in_turn hand free ≡ l → AreFrames c.frames l → give_next c.frames (plain_book c free k.owned) ≡ plain_book c (drop 1 l ++ take 1 l) None
+    given [] turn frames =
+        let none = turn_empty hand free turn in
+        ap (λ (o : Option Hand). give_next c.frames (plain_book c free o)) (no_owner k.owned (k.hand_is ∙ none.0)) ∙ ap (λ (l : List ℕ). give_next c.frames (plain_book c l None)) none.1
+    given (f ∷ rest) turn frames =
+        let next : frame_in_turn (plain_book c free k.owned) ≡ Some f = owned_turn k.owned free ∙ ap (λ (o : Option ℕ). front (in_turn o free)) k.hand_is ∙ ap front turn in
+        ap (λ (o : Option ℕ). option_map_or (λ f. Rattle.trail.specs.Book.give c.frames f (plain_book c free k.owned)) o (plain_book c free k.owned)) next
+        ∙ ap (λ (l : List ℕ). plain_book c (l ++ f ∷ []) None) (without_next hand free f rest turn frames.1)
+
+    turned : (l : List ℕ) → AreFrames c.frames l → AreFrames c.frames (drop 1 l ++ take 1 l)
+    turned [] frames = tt
+    turned (f ∷ rest) frames = frames_last c.frames f rest frames.0 frames.1 frames.2
+
+    away : (g : ℕ) (l : List ℕ) → Absent g l → Absent g (drop 1 l ++ take 1 l)
+    away g [] a = tt
+    away g (f ∷ rest) a = absent_last g f rest a.0 a.1
+
+    by_turn : (l : List ℕ) → in_turn hand free ≡ l → KeepsBook c new (drop 1 l ++ take 1 l) None
+    by_turn l turn =
+        let frames : AreFrames c.frames l = subst (λ (l : List ℕ). AreFrames c.frames l) turn k.distinct in
+        record {
+          owned = None;
+          hand_is = refl;
+          book_is = gave ∙ ap (give_next c.frames) k.book_is ∙ given l turn frames;
+          distinct = turned l frames;
+          taken = λ p g here. away g l (subst (λ (l : List ℕ). Absent g l) turn (k.taken p g (sym (same p) ∙ here)));
+        }
+
+-- The frames that are not in turn.
+pub used_on : (c : Config) (h new : List Entry) (tenants : List PageId) (fs : List ℕ) → ((p : PageId) → home new p ≡ home h p) → AreOthersUsed c h tenants fs → AreOthersUsed c new tenants fs
+used_on c h new tenants fs same k = λ f below away. same (page_in tenants f) ∙ k f below away
+
+used_load : (c : Config) (h new : List Entry) (tenants : List PageId) (p : PageId) (f : ℕ) (rest : List ℕ)
+    → ((q : PageId) → home new q ≡ cond (same_page p q) (Some f) (home h q)) → home h p ≡ None → f < length tenants → AreOthersUsed c h tenants (f ∷ rest) → AreOthersUsed c new (set tenants f p) rest
+used_load c h new tenants p f rest after absent below k = λ g inside away. elim (cases_eq g f) [
+  | inl e ↦
+      let own : page_in (set tenants f p) g ≡ p = ap (page_in (set tenants f p)) e ∙ get_or-set_same tenants f p nowhere below in
+      ap (home new) own ∙ after p ∙ ap (λ (b : Bool). cond b (Some f) (home h p)) (same_self p) ∙ ap (λ (m : ℕ). Some m) (sym e)
+  | inr ne ↦
+      let q = page_in tenants g in
+      ap (home new) (get_or-set_other tenants f g p nowhere ne) ∙ after q ∙ stays g q (same_page p q) refl (k g inside (ne, away))
+]
+  where
+    nowhere : PageId
+    nowhere = record { space = 0; page = 0 }
+
+    stays : (g : ℕ) (q : PageId) (b : Bool) → same_page p q ≡ b → home h q ≡ Some g → cond b (Some f) (home h q) ≡ Some g
+    stays g q true same was = absurd (none_some g (sym absent ∙ ap (home h) (same_is p q same) ∙ was))
+    stays g q false same was = was
+
+used_evict : (c : Config) (h new : List Entry) (tenants : List PageId) (p : PageId) (f : ℕ) (free : List ℕ)
+    → ((q : PageId) → home new q ≡ cond (same_page p q) None (home h q)) → home h p ≡ Some f → AreOthersUsed c h tenants [] → AreOthersUsed c new tenants (f ∷ free)
+used_evict c h new tenants p f free after here k = λ g inside away.
+    let q = page_in tenants g in
+    after q ∙ stays g q away.0 (same_page p q) refl (k g inside tt)
+  where
+    stays : (g : ℕ) (q : PageId) → g ≢ f → (b : Bool) → same_page p q ≡ b → home h q ≡ Some g → cond b None (home h q) ≡ Some g
+    stays g q ne true same was = absurd (ne (some_same g f (sym was ∙ sym (ap (home h) (same_is p q same)) ∙ here)))
+    stays g q ne false same was = was
+
+used_late : (c : Config) (h new : List Entry) (tenants : List PageId) (fs : List ℕ) → ((p : PageId) → home new p ≡ home h p) → AreOthersUsed c h tenants fs → AreOthersUsed c new tenants (drop 1 fs ++ take 1 fs)
+used_late c h new tenants fs same k = λ f below away. same (page_in tenants f) ∙ k f below (front_too f fs away)
+  where
+    front_too : (f : ℕ) (l : List ℕ) → Absent f (drop 1 l ++ take 1 l) → Absent f l
+    front_too f [] away = tt
+    front_too f (g ∷ rest) away = absent_before_last f g rest away
+
+-- What a quiet entry leaves.
+record IsQuiet (k : Kind) : Type 0 where
+  pub homes : (p : PageId) (before : Option ℕ) → home_after k p before ≡ before
+  pub books : (per : ℕ) (e : Entry) (b : Book) → book_after per e k b ≡ b
+  pub dirt : (ds : List Dirty) → dirty_after k ds ≡ ds
+  pub ends : (n : ℕ) → log_end_after k n ≡ n
+  pub orders : (n : Numbers) (o : Order PageId) → order_after n k o ≡ o
+
+in_time : (b : Bool) (x y : Book) → not b ≡ true → cond b y x ≡ x
+in_time true x y quiet = absurd (no_way (sym quiet))
+in_time false x y quiet = refl
+
+leaves : (k : Kind) → is_quiet k ≡ true → IsQuiet k
+leaves (kind.Load p f) quiet = absurd (no_way (sym quiet))
+leaves (kind.Fix p f clock now) quiet = absurd (no_way (sym quiet))
+leaves (kind.Create p f start end now) quiet = absurd (no_way (sym quiet))
+leaves (kind.Put p at bytes start end) quiet = absurd (no_way (sym quiet))
+leaves (kind.Evict p f passed) quiet = absurd (no_way (sym quiet))
+leaves (kind.Write p lsn upto) quiet = absurd (no_way (sym quiet))
+leaves (kind.Move p from to) quiet = absurd (no_way (sym quiet))
+leaves (kind.Withdraw from) quiet = absurd (no_way (sym quiet))
+leaves (kind.Undo from) quiet = absurd (no_way (sym quiet))
+leaves (kind.Shrink chunks) quiet = absurd (no_way (sym quiet))
+leaves (kind.Grow chunks) quiet = absurd (no_way (sym quiet))
+leaves (kind.Resize bytes chunks) quiet = record { homes = λ q b. refl; books = λ per e b. refl; dirt = λ ds. refl; ends = λ n. refl; orders = λ n o. refl }
+leaves (kind.Clean written skipped) quiet = record { homes = λ q b. refl; books = λ per e b. refl; dirt = λ ds. refl; ends = λ n. refl; orders = λ n o. refl }
+leaves (kind.Check lsn) quiet = record { homes = λ q b. refl; books = λ per e b. refl; dirt = λ ds. refl; ends = λ n. refl; orders = λ n o. refl }
+leaves (kind.WatchSet p) quiet = record { homes = λ q b. refl; books = λ per e b. refl; dirt = λ ds. refl; ends = λ n. refl; orders = λ n o. refl }
+leaves (kind.WatchAt p f) quiet = record { homes = λ q b. refl; books = λ per e b. refl; dirt = λ ds. refl; ends = λ n. refl; orders = λ n o. refl }
+leaves (kind.Occurred p arrived) quiet = record { homes = λ q b. refl; books = λ per e b. refl; dirt = λ ds. refl; ends = λ n. refl; orders = λ n o. refl }
+leaves (kind.Unwatch p) quiet = record { homes = λ q b. refl; books = λ per e b. refl; dirt = λ ds. refl; ends = λ n. refl; orders = λ n o. refl }
+leaves (kind.Dump pct ids) quiet = record { homes = λ q b. refl; books = λ per e b. refl; dirt = λ ds. refl; ends = λ n. refl; orders = λ n o. refl }
+leaves (kind.Refused asked why) quiet = record { homes = λ q b. refl; books = λ per e b. in_time (is_late asked why) b (give_next per b) quiet; dirt = λ ds. refl; ends = λ n. refl; orders = λ n o. refl }
+
+module _ (c : Config) (h : List Entry) (homes : PageId → Option ℕ) (tenants : List PageId) (free : List ℕ) (hand : Option ℕ) (newest : List (Option ℕ)) (flush : Flush) (lru : View) (seats : ℕ)
+    (k : AreKept c h homes tenants free hand newest flush lru seats) (e : Entry) (place : e.place ≡ mark c.first h + 1) where
+  placed : e.place ≡ c.first + length (e ∷ h)
+  placed = omega (arith, place, k.places)
+
+  pub kept_quiet : is_quiet e.kind ≡ true → AreKept c (e ∷ h) homes tenants free hand newest flush lru seats
+  kept_quiet quiet =
+      let q = leaves e.kind quiet in
+      let same : (p : PageId) → home (e ∷ h) p ≡ home h p = λ p. q.homes p (home h p) in
+      record {
+        one = k.one;
+        places = placed;
+        homed = homes_on c h (e ∷ h) homes tenants same k.homed;
+        booked = book_on c h (e ∷ h) free hand same (q.books c.frames e (book c h)) k.booked;
+        used = used_on c h (e ∷ h) tenants (in_turn hand free) same k.used;
+        soiled = dirt_on c h homes tenants newest flush k.homed k.soiled (e ∷ h) same (q.dirt (dirty h)) (q.ends (log_end h));
+        ordered = order_on c h homes tenants lru k.homed k.ordered e same (q.orders (numbers_of c) (order c h));
+        frames = k.frames;
+        seated = k.seated;
+      }
+
+  pub kept_fix : (p : PageId) (f clock now : ℕ) → e.kind ≡ kind.Fix p f clock now → home h p ≡ Some f
+      → AreKept c (e ∷ h) homes tenants free hand newest flush (record lru { order = touch ◌==◌ lru.numbers f now lru.order }) seats
+  kept_fix p f clock now is here =
+      let same : (q : PageId) → home (e ∷ h) q ≡ home h q = λ q. ap (λ (x : Kind). home_after x q (home h q)) is in
+      record {
+        one = k.one;
+        places = placed;
+        homed = homes_on c h (e ∷ h) homes tenants same k.homed;
+        booked = book_on c h (e ∷ h) free hand same (ap (λ (x : Kind). book_after c.frames e x (book c h)) is) k.booked;
+        used = used_on c h (e ∷ h) tenants (in_turn hand free) same k.used;
+        soiled = dirt_on c h homes tenants newest flush k.homed k.soiled (e ∷ h) same (ap (λ (x : Kind). dirty_after x (dirty h)) is) (ap (λ (x : Kind). log_end_after x (log_end h)) is);
+        ordered = order_fix c h homes tenants lru k.homed k.ordered e p f clock now is here;
+        frames = k.frames;
+        seated = k.seated;
+      }
+
+  -- an entry that leaves all lists but that of dirty pages
+  kept_dirt : (more : List (Option ℕ)) (flushed : Flush) → ((q : PageId) → home (e ∷ h) q ≡ home h q) → book c (e ∷ h) ≡ book c h → order c (e ∷ h) ≡ order c h
+      → KeepsDirty c (e ∷ h) more flushed → AreKept c (e ∷ h) homes tenants free hand more flushed lru seats
+  kept_dirt more flushed same books orders soiled = record {
+    one = k.one;
+    places = placed;
+    homed = homes_on c h (e ∷ h) homes tenants same k.homed;
+    booked = book_on c h (e ∷ h) free hand same books k.booked;
+    used = used_on c h (e ∷ h) tenants (in_turn hand free) same k.used;
+    soiled = soiled;
+    ordered = order_on c h homes tenants lru k.homed k.ordered e same orders;
+    frames = k.frames;
+    seated = k.seated;
+  }
+
+  pub kept_put : (p : PageId) (f at : ℕ) (bytes : List ℕ) (start end : ℕ) → e.kind ≡ kind.Put p at bytes start end → home h p ≡ Some f → log_end h ≤ start → start ≤ end
+      → AreKept c (e ∷ h) homes tenants free hand (set newest f (Some end)) (after_change f start (newest_in newest f) flush) lru seats
+  kept_put p f at bytes start end is here ahead rises =
+      let same : (q : PageId) → home (e ∷ h) q ≡ home h q = λ q. ap (λ (x : Kind). home_after x q (home h q)) is in
+      kept_dirt (set newest f (Some end)) (after_change f start (newest_in newest f) flush) same (ap (λ (x : Kind). book_after c.frames e x (book c h)) is)
+      (ap (λ (x : Kind). order_after (numbers_of c) x (order c h)) is)
+      (dirt_put c h homes tenants newest flush k.homed k.soiled (e ∷ h) p f start end same (ap (λ (x : Kind). dirty_after x (dirty h)) is) (ap (λ (x : Kind). log_end_after x (log_end h)) is) here ahead rises)
+
+  pub kept_write : (p : PageId) (f lsn upto : ℕ) → e.kind ≡ kind.Write p lsn upto → home h p ≡ Some f
+      → AreKept c (e ∷ h) homes tenants free hand (set newest f None) (after_write f (newest_in newest f) flush) lru seats
+  kept_write p f lsn upto is here =
+      let same : (q : PageId) → home (e ∷ h) q ≡ home h q = λ q. ap (λ (x : Kind). home_after x q (home h q)) is in
+      kept_dirt (set newest f None) (after_write f (newest_in newest f) flush) same (ap (λ (x : Kind). book_after c.frames e x (book c h)) is)
+      (ap (λ (x : Kind). order_after (numbers_of c) x (order c h)) is)
+      (dirt_write c h homes tenants newest flush k.homed k.soiled (e ∷ h) p f same (ap (λ (x : Kind). dirty_after x (dirty h)) is) (ap (λ (x : Kind). log_end_after x (log_end h)) is) here)
+
+  pub kept_write_away : (p : PageId) (lsn upto : ℕ) → e.kind ≡ kind.Write p lsn upto → home h p ≡ None → AreKept c (e ∷ h) homes tenants free hand newest flush lru seats
+  kept_write_away p lsn upto is absent =
+      let same : (q : PageId) → home (e ∷ h) q ≡ home h q = λ q. ap (λ (x : Kind). home_after x q (home h q)) is in
+      kept_dirt newest flush same (ap (λ (x : Kind). book_after c.frames e x (book c h)) is) (ap (λ (x : Kind). order_after (numbers_of c) x (order c h)) is)
+      (dirt_write_away c h homes tenants newest flush k.homed k.soiled (e ∷ h) p same (ap (λ (x : Kind). dirty_after x (dirty h)) is) (ap (λ (x : Kind). log_end_after x (log_end h)) is) absent)
+
+  pub kept_load : (p : PageId) (f : ℕ) (more : PageId → Option ℕ) (rest : List ℕ) → e.kind ≡ kind.Load p f → home h p ≡ None → in_turn hand free ≡ f ∷ rest
+      → ((q : PageId) → more q ≡ cond (same_page p q) (Some f) (homes q))
+      → AreKept c (e ∷ h) more (set tenants f p) rest None newest flush (record lru { order = read_in lru.numbers f lru.order }) seats
+  kept_load p f more rest is absent turn grown =
+      let after : (q : PageId) → home (e ∷ h) q ≡ cond (same_page p q) (Some f) (home h q) = λ q. ap (λ (x : Kind). home_after x q (home h q)) is in
+      let none : IsVacant h f = vacant_from c h free hand f rest k.booked turn in
+      let frames : AreFrames c.frames (f ∷ rest) = subst (λ (l : List ℕ). AreFrames c.frames l) turn k.booked.distinct in
+      let long : length (in_turn hand free) ≡ length (f ∷ rest) = ap (length {A = ℕ}) turn in
+      record {
+        one = k.one;
+        places = placed;
+        homed = homes_load c h (e ∷ h) homes more tenants p f after grown frames.0 none k.homed;
+        booked = book_load c h (e ∷ h) free rest hand p f after (ap (λ (x : Kind). book_after c.frames e x (book c h)) is) turn k.booked;
+        used = used_load c h (e ∷ h) tenants p f rest after absent (omega (arith, frames.0, k.homed.tenant_count)) (subst (λ (l : List ℕ). AreOthersUsed c h tenants l) turn k.used);
+        soiled = dirt_load c h homes tenants newest flush k.homed k.soiled (e ∷ h) p f after (ap (λ (x : Kind). dirty_after x (dirty h)) is) (ap (λ (x : Kind). log_end_after x (log_end h)) is) absent none;
+        ordered = order_load c h homes tenants lru k.homed k.ordered e p f is absent none frames.0;
+        frames = k.frames;
+        seated = omega (arith, long, k.seated);
+      }
+
+  pub kept_evict : (p : PageId) (f : ℕ) (passed : List (ℕ × Word)) (less : PageId → Option ℕ) → e.kind ≡ kind.Evict p f passed → home h p ≡ Some f → is_dirty h p ≡ false → in_turn hand free ≡ []
+      → ((q : PageId) → less q ≡ cond (same_page p q) None (homes q))
+      → AreKept c (e ∷ h) less tenants free (Some f) newest flush (record lru { order = evict ◌==◌ f lru.order }) seats
+  kept_evict p f passed less is here clean turn left =
+      let after : (q : PageId) → home (e ∷ h) q ≡ cond (same_page p q) None (home h q) = λ q. ap (λ (x : Kind). home_after x q (home h q)) is in
+      let below = k.homed.housed p f here in
+      let short : length free ≡ 0 = ap (length {A = ℕ}) (turn_empty hand free turn).1 in
+      record {
+        one = k.one;
+        places = placed;
+        homed = homes_evict c h (e ∷ h) homes less tenants p after left k.homed;
+        booked = book_evict c h (e ∷ h) homes tenants free hand e p f passed after (ap (λ (x : Kind). book_after c.frames e x (book c h)) is) turn here k.homed k.booked;
+        used = used_evict c h (e ∷ h) tenants p f free after here (subst (λ (l : List ℕ). AreOthersUsed c h tenants l) turn k.used);
+        soiled = dirt_evict c h homes tenants newest flush k.homed k.soiled (e ∷ h) p f after (ap (λ (x : Kind). dirty_after x (dirty h)) is) (ap (λ (x : Kind). log_end_after x (log_end h)) is) here clean;
+        ordered = order_evict c h homes tenants lru k.homed k.ordered e p f passed is here;
+        frames = k.frames;
+        seated = omega (arith, short, below, k.frames);
+      }
+
+  pub kept_late : (asked : Call) (why : Cause) → e.kind ≡ kind.Refused asked why → is_late asked why ≡ true
+      → AreKept c (e ∷ h) homes tenants (drop 1 (in_turn hand free) ++ take 1 (in_turn hand free)) None newest flush lru seats
+  kept_late asked why is late =
+      let same : (q : PageId) → home (e ∷ h) q ≡ home h q = λ q. ap (λ (x : Kind). home_after x q (home h q)) is in
+      let gave : book c (e ∷ h) ≡ give_next c.frames (book c h) = ap (λ (x : Kind). book_after c.frames e x (book c h)) is ∙ ap (λ (b : Bool). cond b (give_next c.frames (book c h)) (book c h)) late in
+      record {
+        one = k.one;
+        places = placed;
+        homed = homes_on c h (e ∷ h) homes tenants same k.homed;
+        booked = book_late c h (e ∷ h) free hand same gave k.booked;
+        used = used_late c h (e ∷ h) tenants (in_turn hand free) same k.used;
+        soiled = dirt_on c h homes tenants newest flush k.homed k.soiled (e ∷ h) same (ap (λ (x : Kind). dirty_after x (dirty h)) is) (ap (λ (x : Kind). log_end_after x (log_end h)) is);
+        ordered = order_on c h homes tenants lru k.homed k.ordered e same (ap (λ (x : Kind). order_after (numbers_of c) x (order c h)) is);
+        frames = k.frames;
+        seated = turned (in_turn hand free) k.seated;
+      }
+    where
+      turned : (l : List ℕ) → length l ≤ seats → length (drop 1 l ++ take 1 l) ≤ seats
+      turned [] few = few
+      turned (f ∷ rest) few = omega (arith, few, length-last rest f)
+
+-- lists that are equal to those
+pub kept_as : (c : Config) (h new : List Entry) (homes : PageId → Option ℕ) (tenants : List PageId) (free free' : List ℕ) (hand hand' : Option ℕ) (newest newest' : List (Option ℕ)) (flush flush' : Flush) (lru lru' : View) (seats seats' : ℕ)
+    → new ≡ h → free' ≡ free → hand' ≡ hand → newest' ≡ newest → flush' ≡ flush → lru' ≡ lru → seats' ≡ seats
+    → AreKept c h homes tenants free hand newest flush lru seats → AreKept c new homes tenants free' hand' newest' flush' lru' seats'
+kept_as c h new homes tenants free free' hand hand' newest newest' flush flush' lru lru' seats seats' same frees hands marks dirt order room k =
+    let H : List Entry → Type 0 = λ x. AreKept c x homes tenants free' hand' newest' flush' lru' seats' in
+    let F : List ℕ → Type 0 = λ x. AreKept c h homes tenants x hand' newest' flush' lru' seats' in
+    let N : Option ℕ → Type 0 = λ x. AreKept c h homes tenants free x newest' flush' lru' seats' in
+    let M : List (Option ℕ) → Type 0 = λ x. AreKept c h homes tenants free hand x flush' lru' seats' in
+    let D : Flush → Type 0 = λ x. AreKept c h homes tenants free hand newest x lru' seats' in
+    let L : View → Type 0 = λ x. AreKept c h homes tenants free hand newest flush x seats' in
+    let S : ℕ → Type 0 = λ x. AreKept c h homes tenants free hand newest flush lru x in
+    subst H (sym same) (subst F (sym frees) (subst N (sym hands) (subst M (sym marks) (subst D (sym dirt) (subst L (sym order) (subst S (sym room) k))))))
+
+-- The frame that is next is the first in turn, and no page's home.
+pub record ComesTo (c : Config) (h : List Entry) (free : List ℕ) (hand : Option ℕ) (f : ℕ) : Type 0 where
+  pub turn : in_turn hand free ≡ f ∷ drop 1 (in_turn hand free)
+  pub below : f < c.frames
+  pub vacant : IsVacant h f
+
+pub comes_to : (c : Config) (h : List Entry) (free : List ℕ) (hand : Option ℕ) (f : ℕ) → KeepsBook c h free hand → frame_in_turn (book c h) ≡ Some f → ComesTo c h free hand f
+comes_to c h free hand f k next =
+    let turn = front_is (in_turn hand free) f (sym (next_is c h free hand k) ∙ next) in
+    let frames = subst (λ (l : List ℕ). AreFrames c.frames l) turn k.distinct in
+    record { turn = turn; below = frames.0; vacant = vacant_from c h free hand f _ k turn }
+
+-- a page came or left, as the hash tells it
+pub rehomed : (old new : PageId → Option ℕ) (p : PageId) (to : Option ℕ) → ((q : PageId) → new q ≡ cond (same_page q p) to (old q)) → (q : PageId) → new q ≡ cond (same_page p q) to (old q)
+rehomed old new p to came q = came q ∙ ap (λ (b : Bool). cond b to (old q)) (same_turned q p)
+
+-- a frame that is no page's home is unused in a map of the homes
+pub unused_from : (h : List Entry) (homes : PageId → Option ℕ) (f : ℕ) → ((p : PageId) → homes p ≡ home h p) → IsVacant h f → (p : PageId) → homes p ≢ Some f
+unused_from h homes f are vacant p here = vacant p (sym (are p) ∙ here)
+
+-- the history after a push
+pub pushed : (old new : List Entry) (e : Entry) → new ≡ old ++ e ∷ [] → reverse new ≡ e ∷ reverse old
+pushed old new e grown = ap reverse grown ∙ reverse-append old (e ∷ [])

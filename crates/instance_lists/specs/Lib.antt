@@ -1,0 +1,3 @@
+pub mod Ledger
+pub mod KeptLists
+pub mod Walk

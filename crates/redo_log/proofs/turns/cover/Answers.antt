@@ -1,0 +1,20 @@
+use Rattle.std.proofs.Common.{◌≡◌, true≢false, sym, arith, ap, ◌∙◌}
+use Rattle.crossbeam_utils.specs.Seq.{cell_view}
+use Rattle.redo_log.specs.declared.view.View.{View}
+use Rattle.redo_log.proofs.Agreement.{below}
+use Rattle.redo_log.proofs.turns.cover.Goals as goal
+
+pub returns-in-Err-clause-fault : goal.returns-in-Err-clause-fault
+returns-in-Err-clause-fault g c = λ before after is.
+    let e = c.in-Err.ensures in
+    let f = e.fault before after is in
+    let turn = c.requires.turn in
+    let w = c.mark.ensures.view in
+    let faults : (cell_view c.mark.new.seat).faults ≡ c.cover-answer.new.self.seen.faults = ap (λ (v : View). v.faults) w ∙ c.faults.ensures in
+    let durable : (cell_view c.mark.new.seat).durable ≡ c.cover-answer.new.self.seen.durable = ap (λ (v : View). v.durable) w ∙ c.durable.ensures in
+    let end = ap (λ (v : View). v.end) w in
+    let stays = ap (λ s. s.durable) e.err in (
+      record { first = omega (arith, f.0.first, turn.faults); rose = f.0.rose; last = omega (arith, f.0.last, faults) },
+      omega (arith, f.2, end, turn.agrees.end, e.end),
+      below _ _ (λ le. true≢false (sym (e.idle (omega (arith, le, durable, stays))).1)),
+    )

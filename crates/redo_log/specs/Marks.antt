@@ -1,0 +1,100 @@
+-- The rule of the marks, which are three words: the end, the durable mark and the count of faults.
+use Rattle.std.specs.Prelude.{◌≡◌, ℕ, ◌≤◌, max, true, false, List, [], ◌∷◌, ◌++◌, slice_index}
+use mathlib.Core.Option.{some}
+use lib.ListN.{get_elem?}
+use Rattle.redo_log.specs.declared.view.Piece.{Piece}
+use Rattle.redo_log.specs.declared.view.Story.{Story}
+use Rattle.redo_log.specs.declared.view.View.{View}
+use Rattle.redo_log.specs.Story.{end_of, longer, StandAll}
+
+abbrev pub words_of : Story → List ℕ
+words_of s = end_of s ∷ s.durable ∷ s.faults ∷ []
+
+-- no log was opened yet
+abbrev pub no_story : Story
+no_story = record { opened = 0; bytes = []; durable = 0; faults = 0 }
+
+-- a view that knows nothing
+abbrev pub blank : View
+blank = record { keeps = false; story = no_story; end = 0; durable = 0; faults = 0; pieces = [] }
+
+-- the first view: it is the keeper's
+abbrev pub first_view : View
+first_view = record blank { keeps = true }
+
+-- what a view knows is so: its marks are no later than the story's, its pieces stand, and the keeper knows the whole story
+pub record Fits (s : Story) (keeper j : ℕ) (v : View) : Type 0 where
+  pub end : v.end ≤ end_of s
+  pub durable : v.durable ≤ s.durable
+  pub faults : v.faults ≤ s.faults
+  pub pieces : StandAll s v.pieces
+  pub keeps : v.keeps ≡ true → (j ≡ keeper) × (v.story ≡ s)
+
+-- a durable mark lies in its log
+pub record IsSound (s : Story) : Type 0 where
+  pub low : s.opened ≤ s.durable
+  pub high : s.durable ≤ end_of s
+
+-- the words are those of some story, of which each view knows a part and one view the whole
+pub record Kept (marks : List ℕ) (views : List View) : Type 0 where
+  pub story : Story
+  pub keeper : ℕ
+  pub words : marks ≡ words_of story
+  pub sound : IsSound story
+  pub each : (j : ℕ) (v : View) → get_elem? views j ≡ some v → Fits story keeper j v
+
+-- the view with the keeper's part of another
+abbrev pub taken : View → View → View
+taken v w = record v { keeps = true; story = w.story }
+
+-- the view without the keeper's part, and that part alone
+abbrev pub left : View → View
+left v = record v { keeps = false; story = no_story }
+
+abbrev pub keeper_of : View → View
+keeper_of v = record first_view { story = v.story }
+
+-- a new view with the same marks, that knows no piece
+abbrev pub again : View → View
+again v = record blank { end = v.end; durable = v.durable; faults = v.faults }
+
+-- the view with what another knows
+abbrev pub joined : View → View → View
+joined v w = record v {
+  end = max v.end w.end;
+  durable = max v.durable w.durable;
+  faults = max v.faults w.faults;
+  pieces = v.pieces ++ w.pieces;
+}
+
+-- the view that has seen the marks of this story
+abbrev pub looked : View → Story → View
+looked v s = record v { end = end_of s; durable = s.durable; faults = s.faults }
+
+-- the keeper's view, once the story is this one
+abbrev pub told : View → Story → View
+told v s = looked (record v { story = s }) s
+
+-- the keeper's view, once this piece was put at the log's end
+abbrev pub appended : View → Piece → View
+appended v p = record (told v (longer v.story p.bytes)) { pieces = v.pieces ++ p ∷ [] }
+
+-- what a step of the keeper tells, by the words that it puts
+abbrev pub Opens : View → List ℕ → List ℕ → View → Type 0
+Opens v x y w = w ≡ told v record { opened = slice_index y 0; bytes = []; durable = slice_index y 1; faults = slice_index y 2 }
+
+abbrev pub Rises : View → List ℕ → List ℕ → View → Type 0
+Rises v x y w = w ≡ told v record v.story { durable = slice_index y 1; faults = slice_index y 2 }
+
+abbrev pub Appends : Piece → View → List ℕ → List ℕ → View → Type 0
+Appends p v x y w = w ≡ appended v p
+
+-- what a look at the words tells: the view has these marks then, which did not fall; and the keeper knows where the log stands
+pub record Looks (v : View) (x y : List ℕ) (w : View) : Type 0 where
+  pub words : x ≡ w.end ∷ w.durable ∷ w.faults ∷ []
+  pub end : v.end ≤ w.end
+  pub durable : v.durable ≤ w.durable
+  pub faults : v.faults ≤ w.faults
+  pub high : w.durable ≤ w.end
+  pub same : (w.keeps ≡ v.keeps) × (w.story ≡ v.story) × (w.pieces ≡ v.pieces)
+  pub whole : v.keeps ≡ true → (w ≡ told v v.story) × IsSound v.story × StandAll v.story v.pieces

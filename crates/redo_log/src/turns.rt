@@ -1,0 +1,85 @@
+//! What a pass does in its turn, when its view is the keeper's and the log is in its hands.
+ghost use Rattle.std.specs.Prelude.{◌≡◌, ◌≤◌, ◌<◌, ◌+◌, ◌++◌, ◌^◌, ℕ, [], ◌∷◌, length, All, IfOk, IfErr, OnErr, Err};
+ghost use Rattle.crossbeam_utils.specs.Seq.{cell_view};
+ghost use Rattle.redo_mark.specs.Records.{sealed};
+ghost use Rattle.redo_mark.specs.Logs.{IsSpan, IsFault};
+ghost use Rattle.redo_log.specs.Story.{piece_at};
+ghost use Rattle.redo_log.specs.Passes.{GoesOn, known_of};
+ghost use Rattle.redo_log.specs.Turns.{IsTurn, IsSameLog};
+ghost use Rattle.redo_log.specs.Ends.{IsWithin};
+
+use crate::passes::RedoPass;
+use crate::steps;
+use crate::view::{Cell, Seat};
+use redo_mark::{CoverErr, Draft, LogSpent, Redo, RedoDisk, Span};
+use std::snapshot::Snapshot;
+use std::sync::Wait;
+
+/// Appends the record of a draft.
+pub(crate) fn append<R: RedoDisk, W: Wait>(
+    cell: &Cell,
+    rt: &W,
+    seat: &mut Seat,
+    log: &mut Redo<R>,
+    draft: Draft,
+) -> Result<Span, LogSpent>
+    requires cell { seat.old.table_id ≡ cell.now.table.shared.table_id }
+    requires turn { IsTurn (cell_view seat.old) log.old.seen }
+    ensures turn { IsTurn (cell_view seat.new) log.new.seen }
+    ensures same { IsSameLog log.old log.new }
+    ensures goes { GoesOn (known_of seat.old.table_id (cell_view seat.old)) (known_of seat.new.table_id (cell_view seat.new)) }
+    ensures span { IfOk result (IsSpan (cell_view seat.old).end (cell_view seat.new).end (length draft + 8)) }
+    ensures pieces { IfOk result (λ s. (cell_view seat.new).pieces ≡ (cell_view seat.old).pieces ++ piece_at s.start (sealed draft s.start) ∷ []) }
+    ensures spent { IfErr result (λ e. (e.end ≡ (cell_view seat.new).end) × (2 ^ 63 < e.end + length draft + 8)) }
+    ensures err { OnErr result ((cell_view seat.new).pieces ≡ (cell_view seat.old).pieces) }
+{
+    let told = Snapshot::of(&draft);
+    let span = log.append(draft)?;
+    log.is_measured();
+    let words = [log.end(), log.durable(), log.faults()];
+    steps::append(cell, rt, seat, told, span.start, words);
+    Ok(span)
+}
+
+/// Makes the log durable up to an LSN.
+pub(crate) fn cover<R: RedoDisk, W: Wait>(
+    cell: &Cell,
+    rt: &W,
+    seat: &mut Seat,
+    log: &mut Redo<R>,
+    lsn: u64,
+) -> Result<u64, CoverErr>
+    requires cell { seat.old.table_id ≡ cell.now.table.shared.table_id }
+    requires turn { IsTurn (cell_view seat.old) log.old.seen }
+    ensures turn { IsTurn (cell_view seat.new) log.new.seen }
+    ensures same { IsSameLog log.old log.new }
+    ensures goes { GoesOn (known_of seat.old.table_id (cell_view seat.old)) (known_of seat.new.table_id (cell_view seat.new)) }
+    ensures pieces { (cell_view seat.new).pieces ≡ (cell_view seat.old).pieces }
+    ensures ok { IfOk result (λ upto. (upto ≡ (cell_view seat.new).durable) × (lsn ≤ upto) × (upto ≤ (cell_view seat.new).end)) }
+    ensures beyond { (l end : ℕ) → result ≡ Err (CoverErr.BeyondEnd l end)
+        → (l ≡ lsn) × (end ≡ (cell_view seat.new).end) × (end < lsn) }
+    ensures fault { (before after : ℕ) → result ≡ Err (CoverErr.Fault before after)
+        → IsFault (cell_view seat.old).faults (cell_view seat.new).faults before after
+        × (lsn ≤ (cell_view seat.new).end) × ((cell_view seat.new).durable < lsn) }
+{
+    let answer = log.cover(lsn);
+    log.is_measured();
+    steps::mark(cell, rt, seat, log.end(), log.durable(), log.faults());
+    match answer {
+        Ok(covered) => Ok(covered.upto()),
+        Err(error) => Err(error),
+    }
+}
+
+/// The keeper's view takes in what these passes know.
+pub(crate) fn gather(cell: &Cell, keeper: &mut Seat, mut passes: Vec<RedoPass>)
+    requires cell { keeper.old.table_id ≡ cell.now.table.shared.table_id }
+    requires passes { All (λ p. p.log ≡ cell.now.table.shared.table_id) passes.items }
+    ensures cell { keeper.new.table_id ≡ keeper.old.table_id }
+    ensures same { ((cell_view keeper.new).keeps ≡ (cell_view keeper.old).keeps) × ((cell_view keeper.new).story ≡ (cell_view keeper.old).story) }
+    ensures passes { All (IsWithin (cell_view keeper.new)) passes.items }
+{
+    while let Some(RedoPass { seat }) = passes.pop() {
+        steps::join(cell, keeper, seat);
+    }
+}
