@@ -497,6 +497,20 @@ R 2 1.2 copied 0:0 38 00000000 1
 R 2 1.3 unfixed 0:0 0 1
 E 3 0.1 clean 0 -
 '
+    trail_is 'examples/scans.pool' "$(cat "$top/examples/scans.pool")" 0 \
+$'trail 0 6 5
+E 1 1.1 load 0:0 0
+E 2 1.1 fix 0:0 0 1 1
+E 3 1.2 fix 0:0 0 1 3
+R 3 1.3 copied 0:0 38 00000000 1
+R 3 1.4 unfixed 0:0 0 2
+E 4 1.5 load 0:1 1
+E 5 1.5 fix 0:1 1 4 3
+R 5 1.6 copied 0:1 38 00000000 4
+R 5 1.7 unfixed 0:1 1 5
+R 5 1.8 unfixed 0:0 0 1
+E 6 0.1 clean 0 -
+'
     run "$(cat "$top/examples/changes.pool")"
     hex want/log 0 '01 00000000 00000001 0026 0002 cafe 0000000000002017'
     stamp want/space 4096 00000000 1 0000000000002017
@@ -721,7 +735,7 @@ printed_scripts() {
     checked 'comments and empty lines are dropped' $'# \xff\n\nthread 1\n#\n' 0 "$usual"$'thread 1\n' ''
     checked 'settings in the order of the table, with their values' $'first 0\nlsn 9\nold_min 4\nold_time 0\nold_pct 5\nmax 3\nsize 16384\nframes 4\npage 4096\n' 0 \
 $'page 4096\ninstances 1\nframes 4\nsize 16384\nmax 3\nold_pct 5\nold_time 0\nold_min 4\nlsn 9\nfirst 0\n' ''
-    checked 'nothing is run' "$thread"$'create 0:0 1\nput 0:0 38 00ff\nread 0:0 38 2\nclean 1\ncheckpoint\nfix 0:0 18446744073709551615\n' 0 \
+    checked 'nothing is run' "$thread"$'create 0:0 1\nput 0:0 38 00ff\nread 0:0 38 2\nclean 1\ncheckpoint\nscan 0:7-9 2\nfix 0:0 18446744073709551615\n' 0 \
 $'page 4096\ninstances 1\nframes 4\nsize 16384\nmax 2\nold_pct 37\nold_time 1000\nold_min 512\nlsn 8192\nfirst 0
 thread 1
 create 0:0 1
@@ -729,6 +743,7 @@ put 0:0 38 00ff
 read 0:0 38 2
 clean 1
 checkpoint
+scan 0:7-9 2
 fix 0:0 18446744073709551615
 ' ''
     checked 'another thread than the first' $'thread 2\n' 3 '' $'innopool: bad line 1\n'

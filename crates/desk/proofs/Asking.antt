@@ -1,6 +1,6 @@
 -- A call that takes a frame for a page, and its refusals.
-use Rattle.std.proofs.Common.{◌≡◌, ◌<◌, ℕ, List, [], IfSome, length, ap, ◌∙◌, sym, subst}
-use Rattle.page_ids.specs.Chunks.{instance_of}
+use Rattle.std.proofs.Common.{◌≡◌, ◌<◌, ℕ, List, [], IfSome, length, refl, ap, ◌∙◌, sym, subst}
+use Rattle.page_ids.specs.Instances.{instance_of}
 use Rattle.page_ids.specs.declared.ids.PageId.{PageId}
 use Rattle.page_ids.specs.declared.frame_word.Word.{Word}
 use Rattle.page_disk.specs.Disks.{DiskSeen}
@@ -45,9 +45,9 @@ pub fault_fits : (opened : List Held) (asked : Call) (e : WriteErr) → length o
 fault_fits opened asked (unwritten.RedoFault before after) few = λ takes. few
 fault_fits opened asked (unwritten.DiskFault before after) few = λ takes. few
 
-pub fault_words : (found : List (ℕ × Word)) (asked : Call) (e : WriteErr) → AreFound found (cause_words asked (cause_of e))
-fault_words found asked (unwritten.RedoFault before after) = tt
-fault_words found asked (unwritten.DiskFault before after) = tt
+pub fault_none : (asked : Call) (e : WriteErr) → cause_words asked (cause_of e) ≡ []
+fault_none asked (unwritten.RedoFault before after) = refl
+fault_none asked (unwritten.DiskFault before after) = refl
 
 module _ {D : Type 0} (seen : D → DiskSeen) where
   -- the refusal of such a call is the next entry

@@ -1,8 +1,8 @@
 -- What a step does to what is known of one page.
-use Rattle.std.proofs.Common.{◌≡◌, ℕ, Bool, true, false, cond, List, [], ◌∷◌, ◌<◌, ◌||◌, Option, Some, None, length, refl, ap, ◌∙◌, sym, subst, arith, IfSome, IsSome, MatchOption, get_or, inl, inr, replicate}
+use Rattle.std.proofs.Common.{◌≡◌, ℕ, Bool, true, false, cond, List, ◌<◌, ◌||◌, Option, Some, None, length, refl, ap, ◌∙◌, sym, subst, arith, IfSome, IsSome, MatchOption, get_or, inl, inr}
 use Rattle.std.proofs.lemmas.Grind.{same_number_lists}
-use Rattle.std.specs.Option.{is_some, option_map}
-use Rattle.page_ids.specs.Content.{Content, patched}
+use Rattle.std.specs.Option.{is_some}
+use Rattle.page_ids.specs.Content.{Content}
 use Rattle.page_ids.specs.Layout.{IsPage, IsContent}
 use Rattle.page_ids.specs.Refusal.{IsBad}
 use Rattle.page_ids.specs.Same.{same_page}
@@ -12,12 +12,11 @@ use Rattle.page_disk.specs.Disks.{Fades}
 use Rattle.trail.specs.declared.event.Call.{Call}
 use Rattle.trail.specs.declared.event.Cause.{Cause}
 use Rattle.trail.specs.declared.event.Dirty.{Dirty}
-use Rattle.trail.specs.declared.event.Entry.{Entry}
 use Rattle.trail.specs.declared.event.Kind.{Kind}
 use Rattle.trail.specs.declared.event.Kind.TheVariants as kind
-use Rattle.trail.specs.History.{value, value_after, home_after}
-use Rattle.trail.specs.Dirt.{dirtied, cleaned, dirty, dirty_after, dirt_of, is_dirty, log_end_after}
-use Rattle.trail.specs.Saved.{is_written, written_after, saved, saved_after}
+use Rattle.trail.specs.History.{value_after, home_after}
+use Rattle.trail.specs.Dirt.{dirtied, cleaned, dirty_after, dirt_of, log_end_after}
+use Rattle.trail.specs.Saved.{written_after, saved_after}
 use Rattle.desk.specs.Base.{IsGiven}
 use Rattle.instance_lists.proofs.Dirt.{no_way, dirtied_is, dirtied_other, cleaned_of}
 

@@ -25,7 +25,7 @@ use Rattle.trail.specs.History.{value, home, change, changes}
 use Rattle.trail.specs.Trails.{mark}
 use Rattle.trail.specs.Words.{words_told}
 use Rattle.frame_words.specs.Appends.{AreReady, FitsHomes, FitsOpen, appended, extended, pages_named, turn_after}
-use Rattle.frame_words.specs.Conditions.{AreFound, AreOurs, ArePublished, IsNext, IsReached, IsUncovered, MayAppend, MayLay}
+use Rattle.frame_words.specs.Conditions.{AreFound, AreOurs, ArePublished, IsNext, IsVisited, IsUncovered, MayAppend, MayLay}
 use Rattle.frame_words.specs.Rows.{Row, Uncovers, laid_row, latched_row, lifted_row, stamped_row, unlatched_row}
 use Rattle.frame_words.specs.Seen.{FramesSeen, History, Turn, row_at, with_row, OnValue}
 use Rattle.desk.specs.Base.{Opened}
@@ -255,7 +255,7 @@ module _ {D : Type 0} (seen : D → DiskSeen) where
         → IfSome s.opened (λ o. FitsOpen o k) → words_told k ≡ [] → MayAppend Hand (next_entry desk by k)
     hand_may by k turn ours ready homes opened words = next_may Hand desk by k ready t.history turn hand_clock t.none_owed ours homes opened words
 
-    hand_reached : IsReached Hand f
+    hand_reached : IsVisited Hand f
     hand_reached = record { inside = omega (arith, inside, length-set s.rows f (in_hand (row_at s f))); alone = inr (ap (λ (r : Row). r.latched) hand_row) }
 
     hand_page : (row_at Hand f).page ≡ p
@@ -284,6 +284,28 @@ module _ {D : Type 0} (seen : D → DiskSeen) where
         patched_told (Some base) is =
             let v : Option Content = value (page_bytes desk.config.page) base desk.history p in
             ap (λ (b : Bool). cond b (option_map (λ x. patched x at bytes end) v) v) (same_self p) ∙ ap (option_map (λ x. patched x at bytes end)) is
+
+    -- the image that was written may be laid back behind its write, and the clock is that of the frame
+    pub lay_written : (by : Caller) (lsn upto : ℕ) → length c.bytes ≡ page_bytes desk.config.page → MayLay (appended Hand (next_entry desk by (kind.Write p lsn upto))) f c
+    lay_written by lsn upto sized =
+        let e : Entry = next_entry desk by (kind.Write p lsn upto) in record {
+          reached = record { inside = hand_reached.inside; alone = hand_reached.alone };
+          empty = ap (λ (r : Row). r.image) hand_row;
+          sized = if_map (extended e) s.history (λ h. length c.bytes ≡ page_bytes h.config.page)
+              (if_is s.history (history_of desk) (λ h. length c.bytes ≡ page_bytes h.config.page) t.history sized);
+          valued = λ resident.
+              let P : PageId → Type 0 = λ q. OnValue (appended Hand e) q (λ v. v ≡ Some c) in
+              let V : History → Type 0 = λ h. IfSome s.base (λ base. value (page_bytes h.config.page) base h.entries p ≡ Some c) in
+              subst P (sym hand_page) (if_map (extended e) s.history V (if_is s.history (history_of desk) (λ h. V (extended e h)) t.history
+              (value_told s desk p f clock n c t here row)));
+        }
+
+    pub clock_written : (by : Caller) (lsn upto : ℕ) → clock ≡ change desk.history f
+        → (let A : FramesSeen = appended Hand (next_entry desk by (kind.Write p lsn upto)) in IfSome A.history (λ h. (row_at A f).clock ≡ change h.entries f))
+    clock_written by lsn upto is =
+        let e : Entry = next_entry desk by (kind.Write p lsn upto) in
+        let V : History → Type 0 = λ h. (row_at Hand f).clock ≡ change h.entries f in
+        if_map (extended e) s.history V (if_is s.history (history_of desk) (λ h. V (extended e h)) t.history (ap (λ (r : Row). r.clock) hand_row ∙ is))
 
     -- what is seen at the end: all is as before, but for the entry
     pub given_back : with_row Hand f (unlatched_row (laid_row (row_at Hand f) c)) ≡ s
@@ -571,6 +593,7 @@ module _ {D : Type 0} (seen : D → DiskSeen) where
     pub rows : s'.rows ≡ s.rows
     pub tied : Ties s' new
     pub turn : HasTurn s by → HasTurn s' by
+    pub base : s'.base ≡ s.base
     pub behind : (o : Opened) → IsBehind seen o old s → IsBehind seen o new s'
 
   -- a page in its home, whose image was lifted under the latch
@@ -660,6 +683,26 @@ module _ {D : Type 0} (seen : D → DiskSeen) where
         subst (λ (x : FramesSeen). MayAppend x (next_entry mid by k)) (sym first)
         (subst (λ (x : Entry). MayAppend (with_row s f (in_hand (row_at s f))) x) (sym (ap (λ (x : State D). next_entry x by k) still)) may)
 
+    written_is : (lsn upto : ℕ) (mid : State D) (s2 : FramesSeen) → mid ≡ desk_of desk desk.history mid.disk → s2 ≡ appended s1 (next_entry mid by (kind.Write p lsn upto))
+        → s2 ≡ appended (with_row s f (in_hand (row_at s f))) (next_entry desk by (kind.Write p lsn upto))
+    written_is lsn upto mid s2 still second =
+        let k : Kind = kind.Write p lsn upto in
+        second ∙ ap (λ (x : FramesSeen). appended x (next_entry mid by k)) first
+        ∙ ap (λ (x : State D). appended (with_row s f (in_hand (row_at s f))) (next_entry x by k)) still
+
+    pub write_lay : (lsn upto : ℕ) (mid : State D) (s2 : FramesSeen) → mid ≡ desk_of desk desk.history mid.disk → s2 ≡ appended s1 (next_entry mid by (kind.Write p lsn upto))
+        → MayLay s2 f image
+    write_lay lsn upto mid s2 still second =
+        subst (λ (x : FramesSeen). MayLay x f image) (sym (written_is lsn upto mid s2 still second))
+        (subst (λ (x : Content). MayLay (appended (with_row s f (in_hand (row_at s f))) (next_entry desk by (kind.Write p lsn upto))) f x) (sym image_is)
+        (lay_written s desk p f clock it.held it.content t within here it.row by lsn upto it.sized))
+
+    pub write_clock : (lsn upto : ℕ) (mid : State D) (s2 : FramesSeen) → mid ≡ desk_of desk desk.history mid.disk → s2 ≡ appended s1 (next_entry mid by (kind.Write p lsn upto))
+        → IfSome s2.history (λ h. (row_at s2 f).clock ≡ change h.entries f)
+    write_clock lsn upto mid s2 still second =
+        subst (λ (x : FramesSeen). IfSome x.history (λ h. (row_at x f).clock ≡ change h.entries f)) (sym (written_is lsn upto mid s2 still second))
+        (clock_written s desk p f clock it.held it.content t within here it.row by lsn upto refl)
+
     pub write_kept : (lsn upto : ℕ) (mid desk' : State D) (s2 s3 : FramesSeen) → mid ≡ desk_of desk desk.history mid.disk
         → IsOtherwiseSame p (seen desk.disk) (seen mid.disk) → IsImageTold p image (seen desk.disk) (seen mid.disk) → ((seen mid.disk).tells ≡ false → (seen mid.disk).told p ≡ None)
         → s2 ≡ appended s1 (next_entry mid by (kind.Write p lsn upto)) → s3 ≡ with_row s2 f (unlatched_row (laid_row (row_at s2 f) image))
@@ -668,6 +711,7 @@ module _ {D : Type 0} (seen : D → DiskSeen) where
       rows = ap (λ (x : FramesSeen). x.rows) finally;
       tied = subst (λ (x : FramesSeen). Ties x desk') (sym finally) (subst (λ (x : State D). Ties (appended s e) x) (sym desk_end) (tied_written s desk by p lsn upto mid.disk on t));
       turn = λ turn. subst (λ (x : FramesSeen). HasTurn x by) (sym finally) (turn_kept (turn_after k) s.turn by (λ x. refl) turn);
+      base = ap (λ (x : FramesSeen). x.base) finally;
       behind = λ o b.
           subst (λ (x : FramesSeen). IsBehind seen o desk' x) (sym finally) (subst (λ (x : State D). IsBehind seen o x (appended s e)) (sym desk_end) (on o b));
     }
@@ -698,6 +742,7 @@ module _ {D : Type 0} (seen : D → DiskSeen) where
       rows = ap (λ (x : FramesSeen). x.rows) finally;
       tied = subst (λ (x : FramesSeen). Ties x mid) (sym finally) (subst (λ (x : State D). Ties s x) (sym still) (tied_disk s desk mid.disk on t));
       turn = λ turn. subst (λ (x : FramesSeen). HasTurn x by) (sym finally) turn;
+      base = ap (λ (x : FramesSeen). x.base) finally;
       behind = λ o b.
           subst (λ (x : FramesSeen). IsBehind seen o mid x) (sym finally) (subst (λ (x : State D). IsBehind seen o x s) (sym still) (on o b));
     }

@@ -45,6 +45,10 @@ pub some_is : {A : Type 0} (o : Option A) → IsSome o → (x : A) × (o ≡ Som
 some_is None is = absurd (no_way (sym is))
 some_is (Some x) is = (x, refl)
 
+pub mapped_same : {A : Type 0} (o : Option A) → option_map (λ x. x) o ≡ o
+mapped_same None = refl
+mapped_same (Some x) = refl
+
 mapped_some : {A : Type 0} (f : A → A) (o : Option A) → IsSome o → IsSome (option_map f o)
 mapped_some f None is = is
 mapped_some f (Some x) is = refl

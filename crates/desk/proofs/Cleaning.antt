@@ -1,28 +1,23 @@
 -- Writes of dirty pages, one after the other, and what they leave.
-use Rattle.std.proofs.Common.{◌≡◌, ◌≤◌, ◌+◌, ◌⊎◌, ◌++◌, ◌∷◌, ℕ, zero, suc, Bool, true, false, List, [], Option, None, Some, length, refl, ap, ◌∙◌, sym, subst, arith, append_assoc, append-nil, inl, inr}
+use Rattle.std.proofs.Common.{◌≡◌, ◌≤◌, ◌+◌, ◌++◌, ◌∷◌, ℕ, zero, suc, true, List, [], Option, None, Some, length, refl, ap, ◌∙◌, sym, subst, arith, append_assoc, append-nil}
 use Rattle.std.specs.Prelude.{⊤}
 use Rattle.std.specs.Option.{is_some}
 use Rattle.page_ids.specs.declared.ids.PageId.{PageId}
 use Rattle.page_ids.specs.declared.lists.Words.{Words}
 use Rattle.redo_mark.specs.Logs.{Seen, IsLater, Grows}
 use Rattle.trail.specs.declared.event.Call.{Call}
-use Rattle.trail.specs.declared.event.Call.TheVariants as call
 use Rattle.trail.specs.declared.event.Cause.{Cause}
-use Rattle.trail.specs.declared.event.Cause.TheVariants as cause
-use Rattle.page_ids.specs.declared.config.Config.{Config}
 use Rattle.page_disk.specs.Disks.{DiskSeen}
 use Rattle.trail.specs.declared.event.Dirty.{Dirty}
 use Rattle.trail.specs.declared.event.Entry.{Entry}
 use Rattle.trail.specs.declared.event.Kind.TheVariants as kind
 use Rattle.trail.specs.Dirt.{dirty, dirt_of, is_dirty, cleaned}
-use Rattle.desk.specs.Changes.{IsWriteBack, WritesBack, IsWriteFault, IsForced, IsStop, IsUncleaned, IsCleanRefusal, LeavesDesk, covered_to, mark_at, mark_behind, AllSayMarks, AreMarked}
+use Rattle.desk.specs.Changes.{IsWriteBack, WritesBack, IsWriteFault, IsForced, LeavesDesk, covered_to, mark_at, mark_behind, AllSayMarks, AreMarked}
 use Rattle.desk.specs.Ledger.{entry_behind}
 use Rattle.desk.specs.Logged.{IsUpTo}
 use Rattle.desk.specs.Reads.{RoseWithin}
 use Rattle.desk.specs.State.{State}
-use Rattle.desk.specs.Steps.{IsAppended}
 use Rattle.desk.specs.declared.calls.Caller.{Caller}
-use Rattle.desk.specs.declared.calls.CleanErr.TheVariants as unclean
 use Rattle.desk.specs.declared.flush.WriteErr.{WriteErr}
 use Rattle.desk.specs.declared.flush.WriteErr.TheVariants as unwritten
 use Rattle.instance_lists.proofs.Dirt.{AreApart, dirty_apart, cleaned_front, same_self}
@@ -158,46 +153,3 @@ forced_same old new (unwritten.DiskFault before after) same = tt
 pub forced_behind : {D A : Type 0} (old mid new : D) (e : WriteErr) → mid ≡ old → (A → ⊤) → IsForced mid new A e → IsForced old new ⊤ e
 forced_behind old mid new (unwritten.RedoFault before after) same on forced = (tt, forced.1 ∙ same)
 forced_behind old mid new (unwritten.DiskFault before after) same on forced = tt
-
-module _ {D : Type 0} (seen : D → DiskSeen) (old room mid new : State D) (by : Caller) (bound n : ℕ) (sync : Bool) (same : room ≡ old) (writes : WritesBack room.config.first by n room.history mid.history) (most : n ≤ bound)
-    (stop : IsStop n bound sync (dirty mid.history)) (config : mid.config ≡ room.config) (instance : mid.instance ≡ room.instance) (disk : new.disk ≡ mid.disk) where
-  -- a clean was refused behind its writes
-  uncleaned_is : (why : Cause) → IsAppended mid new by (kind.Refused (call.Clean bound) why) → IsUncleaned old new by bound sync why
-  uncleaned_is why a = record {
-    written = n;
-    cleaned = record {
-      mid = mid.history;
-      writes = subst (λ (x : State D). WritesBack x.config.first by n x.history mid.history) same writes;
-      history = a.history
-          ∙ ap (λ (c : Config). entry_behind c.first mid.history by (kind.Refused (call.Clean bound) why) ∷ mid.history) (config ∙ ap (λ (x : State D). x.config) same);
-      config = a.config ∙ config ∙ ap (λ (x : State D). x.config) same;
-      instance = a.instance ∙ instance ∙ ap (λ (x : State D). x.instance) same;
-    };
-    most = most;
-    stop = subst (λ (h : List Entry). IsStop n bound sync (dirty h)) (sym a.history) stop;
-  }
-
-  -- as the log failed
-  pub refused_by_log : (disk_was disk_is log_was log_is before after : ℕ) → RoseWithin log_was log_is before after → IsAppended mid new by (kind.Refused (call.Clean bound) (cause.RedoFault before after))
-      → (n ≡ 0 → mid.disk ≡ room.disk) → IsCleanRefusal old new by bound sync disk_was disk_is log_was log_is (unclean.RedoFault before after)
-  unfolding uncleaned_is
-  refused_by_log disk_was disk_is log_was log_is before after rose a unused =
-      (rose, uncleaned_is (cause.RedoFault before after) a, λ none. disk ∙ unused none ∙ ap (λ (x : State D). x.disk) same)
-
-  -- as the disk failed
-  pub refused_by_disk : (log_was log_is before after : ℕ) → RoseWithin (seen room.disk).faults (seen mid.disk).faults before after → IsAppended mid new by (kind.Refused (call.Clean bound) (cause.DiskFault before after))
-      → IsCleanRefusal old new by bound sync (seen old.disk).faults (seen new.disk).faults log_was log_is (unclean.DiskFault before after)
-  refused_by_disk log_was log_is before after rose a = (
-    subst (λ (x : State D). RoseWithin (seen x.disk).faults (seen new.disk).faults before after) same (subst (λ (d : D). RoseWithin (seen room.disk).faults (seen d).faults before after) (sym disk) rose),
-    uncleaned_is (cause.DiskFault before after) a,
-  )
-
--- the same counts
-pub rose_is : (was is b a before after : ℕ) → b ≡ before → a ≡ after → RoseWithin was is before after → RoseWithin was is b a
-rose_is was is b a before after first last rose = subst (λ (n : ℕ). RoseWithin was is n a) (sym first) (subst (λ (n : ℕ). RoseWithin was is before n) (sym last) rose)
-
--- without a sync, and with nothing to write, a clean stops nowhere
-pub unstopped : (written bound dirt : ℕ) (sync : Bool) (left : List Dirty) → IsStop written bound sync left → sync ≡ false → dirt ≡ length left + written → (bound ≡ 0) ⊎ (dirt ≡ 0) → ⊥
-unstopped written bound dirt sync left (inl some) unsynced all (inl none) = omega (arith, some.0, none)
-unstopped written bound dirt sync left (inl some) unsynced all (inr clean) = omega (arith, some.1, all, clean)
-unstopped written bound dirt sync left (inr rest) unsynced all few = let bad : true ≡ false = sym rest.0 ∙ unsynced in absurd (cc)

@@ -1,5 +1,5 @@
 -- A whole create, put together from its steps.
-use Rattle.std.proofs.Common.{◌≡◌, ◌<◌, ◌≤◌, ◌+◌, ℕ, List, ◌∷◌, None, length, refl, ◌∙◌, ◌⊎◌}
+use Rattle.std.proofs.Common.{◌≡◌, ◌<◌, ℕ, List, None, length, refl}
 use Rattle.page_ids.specs.declared.ids.PageId.{PageId}
 use Rattle.page_disk.specs.Disks.{DiskSeen, pages_in}
 use Rattle.redo_mark.specs.Records.{head_of}

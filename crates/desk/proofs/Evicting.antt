@@ -61,12 +61,12 @@ pub looked_turn : (s t : FramesSeen) → HasLooked s t → LeavesTurn s t
 looked_turn s t looked = record {
   turn = ap (λ (u : FramesSeen). u.turn) looked.is;
   opened = ap (λ (u : FramesSeen). u.opened) looked.is;
-  history = λ is. sym (ap (λ (u : FramesSeen). Rattle.std.specs.Option.is_some u.history) looked.is) ∙ is;
+  history = ap (λ (u : FramesSeen). Rattle.std.specs.Option.is_some u.history) looked.is;
   base = ap (λ (u : FramesSeen). u.base) looked.is;
 }
 
 pub turn_on : (a b c : FramesSeen) → LeavesTurn a b → LeavesTurn b c → LeavesTurn a c
-turn_on a b c x y = record { turn = y.turn ∙ x.turn; opened = y.opened ∙ x.opened; history = λ is. x.history (y.history is); base = y.base ∙ x.base }
+turn_on a b c x y = record { turn = y.turn ∙ x.turn; opened = y.opened ∙ x.opened; history = y.history ∙ x.history; base = y.base ∙ x.base }
 
 pub taken_turn : (s t : FramesSeen) (h : List Entry) (p : PageId) (f clock : ℕ) → IsTaken s t h p f clock → LeavesTurn s t
 taken_turn s t h p f clock taken =
@@ -74,7 +74,7 @@ taken_turn s t h p f clock taken =
     turn_on s claimed.mid t (looked_turn s claimed.mid claimed.looked) (record {
       turn = ap (λ (u : FramesSeen). u.turn) claimed.is;
       opened = ap (λ (u : FramesSeen). u.opened) claimed.is;
-      history = λ is. sym (ap (λ (u : FramesSeen). Rattle.std.specs.Option.is_some u.history) claimed.is) ∙ is;
+      history = ap (λ (u : FramesSeen). Rattle.std.specs.Option.is_some u.history) claimed.is;
       base = ap (λ (u : FramesSeen). u.base) claimed.is;
     })
 
@@ -86,7 +86,7 @@ still_few s t left few = subst (λ (o : Option (List Held)). IfSome o (λ opened
 
 pub still_own : {D : Type 0} (s t : FramesSeen) (old new : State D) (p : PageId) → LeavesTurn s t → new.config ≡ old.config → new.instance ≡ old.instance → IsOwn s old p → IsOwn t new p
 still_own s t old new p left config instance own is =
-    ap (λ (c : Config). Rattle.page_ids.specs.Chunks.instance_of p c.instances) config ∙ own (left.history is) ∙ sym instance
+    ap (λ (c : Config). Rattle.page_ids.specs.Instances.instance_of p c.instances) config ∙ own (sym left.history ∙ is) ∙ sym instance
 
 -- the rows behind a claim
 pub taken_rows : (s t : FramesSeen) (h : List Entry) (p : PageId) (f clock : ℕ) → (taken : IsTaken s t h p f clock) → t.rows ≡ set s.rows f (claimed_row (row_in s.rows f) taken.claimed.image)
@@ -131,6 +131,7 @@ log_same log_seen s h = record {
   kept = λ is. is;
   logged = λ is. is;
   known = λ is. is;
+  end = refl;
   upto = upto_none s.seen.durable h;
   mark = inl refl;
 }
@@ -278,6 +279,7 @@ log_on log_seen old new h k l logged ends upto keeps = record {
   kept = keeps.kept;
   logged = λ is. logged new.seen (keeps.logged is);
   known = λ is. let known = keeps.known is in omega (arith, known, ends);
+  end = keeps.end;
   upto = upto new.seen.durable h keeps.upto;
   mark = keeps.mark;
 }

@@ -2,13 +2,13 @@
 use Rattle.std.proofs.Common.{◌≡◌, ◌++◌, ◌<◌, ℕ, List, [], ◌∷◌, Option, None, Some, refl, ap, ◌∙◌, sym, subst, arith}
 use Rattle.std.specs.Prelude.{Contains, IsPermutation}
 use Rattle.std.specs.List.Sorted.{IsNonDecreasingBy}
-use Rattle.std.specs.Option.{option_map_or}
 use Rattle.page_ids.specs.declared.frame_word.Word.{Word}
 use Rattle.page_ids.specs.declared.ids.PageId.{PageId}
 use Rattle.page_ids.specs.declared.config.Config.{Config}
 use Rattle.trail.specs.declared.event.Entry.{Entry}
 use Rattle.trail.specs.History.{home}
-use Rattle.trail.specs.Book.{Book, Hand, book, frame_in_turn, frames_there, front}
+use Rattle.trail.specs.declared.event.Hand.{Hand}
+use Rattle.trail.specs.Book.{Book, book, first_in, frame_in_turn, frames_there}
 use Rattle.trail.specs.Victim.{walk, before_of, ArePassed, IsSought, AreAllFixed}
 use Rattle.trail.specs.Words.{frames_of}
 use Rattle.frame_words.specs.Rows.{Row}
@@ -20,13 +20,13 @@ use Rattle.trail.proofs.LookUps.{before_split, is_some_and, just_itself}
 use Rattle.instance_lists.proofs.Walks.{before_once, before_other, walk_once, housed_walked}
 use Rattle.desk.proofs.PassedWords.{AreInOrder, AreJustOf, in_order_are, just_passed, frames_are}
 
-none_in : (hand : Option Hand) (free : List ℕ) → option_map_or (λ (x : Hand). Some x.frame) hand (front free) ≡ None → free ≡ []
-none_in (Some f) free is = absurd (cc)
-none_in None [] is = refl
-none_in None (f ∷ fs) is = absurd (cc)
+none_in : (hands : List Hand) (free : List ℕ) → first_in hands free ≡ None → free ≡ []
+none_in (x ∷ hands) free is = absurd (cc)
+none_in [] [] is = refl
+none_in [] (f ∷ fs) is = absurd (cc)
 
 pub no_front : (b : Book) → frame_in_turn b ≡ None → b.free ≡ []
-no_front b is = none_in b.hand b.free is
+no_front b is = none_in b.hands b.free is
 
 same_frame : (a b : ℕ) → Some a ≡ Some b → a ≡ b
 same_frame a b e = cc

@@ -20,4 +20,7 @@ pub mod Asking
 pub mod Creating
 pub mod Fixing
 pub mod Making
+pub mod Coming
+pub mod Hands
 pub mod Moments
+pub mod Flushing

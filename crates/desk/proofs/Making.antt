@@ -3,7 +3,7 @@ use Rattle.std.specs.Prelude.{not, ◌&&◌}
 use Rattle.std.specs.Option.{is_some, option_map}
 use Rattle.std.proofs.Common.{◌≡◌, ℕ, List, ◌∷◌, Option, None, Some, IsSomeAnd, ◌<◌, ◌≤◌, ◌^◌, ◌+◌, Bool, true, false, cond, length, get_or, set, refl, sym, ap, ◌∙◌, subst, IfSome, IsSome, eq-eqb, nat_eq, length-set}
 use Rattle.std.proofs.lemmas.List.{length-replicate}
-use Rattle.page_ids.specs.Chunks.{instance_of}
+use Rattle.page_ids.specs.Instances.{instance_of}
 use Rattle.page_ids.specs.Content.{Content}
 use Rattle.page_ids.specs.Same.{same_page}
 use Rattle.page_ids.specs.Size.{page_bytes}

@@ -1,43 +1,54 @@
 -- What a call keeps, put together from what its steps keep.
-use Rattle.std.proofs.Common.{◌≡◌, ◌<◌, ◌≤◌, ◌+◌, ◌^◌, ℕ, List, [], ◌∷◌, Option, IfSome, length, refl, ap, ◌∙◌, sym, subst, arith, inl, inr, ◌⊎◌, None}
+use Rattle.std.proofs.Common.{◌≡◌, false, ◌<◌, ◌≤◌, ◌+◌, ◌^◌, ℕ, List, [], ◌∷◌, Option, IfSome, length, refl, ap, ◌∙◌, sym, subst, arith, inl, inr, ◌⊎◌, None}
 use Rattle.std.specs.Prelude.{Some, IsSomeAnd, unwrap_or}
 use Rattle.page_ids.specs.Content.{Content}
 use Rattle.page_ids.specs.declared.config.Config.{Config}
 use Rattle.page_ids.specs.declared.ids.PageId.{PageId}
-use Rattle.page_disk.specs.Disks.{DiskSeen, pages_in, IsInside, IsSameDisk}
+use Rattle.page_ids.specs.declared.layout.BadPage.{BadPage}
+use Rattle.page_disk.specs.Disks.{DiskSeen, pages_in, IsInside}
 use Rattle.redo_mark.specs.Device.{RedoSeen}
 use Rattle.redo_mark.specs.Logs as log
-use Rattle.redo_mark.specs.Logs.{IsLater, IsKept}
+use Rattle.redo_mark.specs.Logs.{Holds, IsLater, IsLonger, IsKept}
+use Rattle.redo_mark.specs.Records.{head_of, sealed}
+use Rattle.redo_mark.specs.declared.record.Change.{Change}
 use Rattle.trail.specs.declared.event.Call.{Call}
 use Rattle.trail.specs.declared.event.Call.TheVariants as call
 use Rattle.trail.specs.declared.event.Cause.{Cause}
 use Rattle.trail.specs.declared.event.Entry.{Entry}
 use Rattle.trail.specs.declared.event.Kind.{Kind}
 use Rattle.trail.specs.declared.event.Kind.TheVariants as kind
-use Rattle.trail.specs.Dirt.{log_end, log_end_after}
+use Rattle.trail.specs.declared.event.Cause.TheVariants as cause
+use Rattle.trail.specs.Dirt.{is_dirty, log_end, log_end_after}
+use Rattle.trail.specs.History.{home}
+use Rattle.trail.specs.Words.{cause_words}
 use Rattle.frame_words.specs.Seen.{FramesSeen}
-use Rattle.desk.specs.Answers.{Had, Unhad, MayTake, Uncreated, Unfixed}
+use Rattle.desk.specs.Answers.{IsAsked, IsRefusable, Had, Unhad, MayTake, Uncreated, Unfixed}
 use Rattle.desk.specs.Base.{Opened}
 use Rattle.desk.specs.Behind.{IsBehind}
 use Rattle.desk.specs.Changes.{LeavesDesk}
 use Rattle.desk.specs.Claimed.{HasLooked}
-use Rattle.desk.specs.Creating.{create_err_of}
-use Rattle.desk.specs.Fixing.{fix_err_of}
+use Rattle.desk.specs.Creating.{IsCreateRefusal, IsUnused, create_err_of}
+use Rattle.desk.specs.Fixing.{IsFixRefusal, IsUnlogged, fix_err_of}
 use Rattle.desk.specs.Ledger.{entry_behind}
-use Rattle.desk.specs.Loads.{IsOneMore}
+use Rattle.desk.specs.Loads.{IsOneMore, MayFix}
 use Rattle.desk.specs.Logged.{IsLogged, IsLoggedKind, IsMarkBehind, AreUpTo, IsUpTo}
-use Rattle.desk.specs.Moments.{LogSeen, log_seen, Moment, moment, IsAtRest, Keeps, UsesLog, IsSameDevice}
+use Rattle.desk.specs.Moments.{LogSeen, log_seen, Moment, moment, IsEmptyHanded, IsAtRest, IsUnderWay, IsReady, Follows, Came, KeepsTo, Keeps, Proceeds, UsesLog, IsAsLong, Adds, IsSameDevice}
 use Rattle.desk.specs.State.{State}
-use Rattle.desk.specs.Steps.{IsAppended, IsRefused}
+use Rattle.desk.specs.Steps.{IsAppended, OnlyReads, IsRefused, next_entry}
 use Rattle.desk.specs.Tied.{AreTied}
-use Rattle.desk.specs.Victims.{AreSettled, MustCover}
+use Rattle.desk.specs.Victims.{AreSettled, AsksFor, MustCover}
 use Rattle.desk.specs.declared.calls.Caller.{Caller}
+use Rattle.desk.specs.declared.calls.CreateErr.{CreateErr}
+use Rattle.desk.specs.declared.calls.FixErr.{FixErr}
+use Rattle.desk.specs.declared.calls.FixErr.TheVariants as unfix
 use Rattle.desk.specs.declared.calls.FrameErr.{FrameErr}
 use Rattle.desk.proofs.Claims.{tied_looked, behind_looked}
 use Rattle.desk.proofs.Cleaning.{later_same, later_on, leaves_on}
+use Rattle.desk.proofs.Coming.{follows_none, came_none, came_one, came_on}
 use Rattle.desk.proofs.Creating.{unhad_create, unforced_unused}
 use Rattle.desk.proofs.Evicting.{leaves_more, leaves_none}
-use Rattle.desk.proofs.Fixing.{leaves_told, still_inside, had_clean, still_may, unhad_refused, unforced_unlogged, unhad_no_bad, needs_a_frame}
+use Rattle.desk.proofs.Fixing.{leaves_told, any_open, few_held, full_held, still_inside, had_clean, still_may, unhad_refused, unforced_unlogged, unhad_no_bad, needs_a_frame}
+use Rattle.desk.proofs.Hands.{hand_still}
 use Rattle.desk.proofs.Loading.{inside_below}
 use Rattle.desk.proofs.Logging.{logged_later, upto_none, upto_more}
 
@@ -53,6 +64,15 @@ inside_of spaces p below = go (spaces p.space) below
 pub seen_same : {R M : Type 0} (seen : R → RedoSeen) (was is : log.State R) → (is ≡ was) ⊎ M → (log_seen seen is ≡ log_seen seen was) ⊎ M
 seen_same seen was is (inl same) = inl (ap (log_seen seen) same)
 seen_same seen was is (inr must) = inr must
+
+-- a record was appended to a log to which nothing else was
+pub adds_of : (old mid new : LogSeen) (c : Change) (draft : List ℕ) (start : ℕ) → IsAsLong old mid → draft ≡ head_of c → start ≡ mid.seen.end → IsLonger mid.seen new.seen (sealed draft start) → Holds new.seen (sealed draft start) start
+    → Adds old new c start
+adds_of old mid new c draft start as_long same here longer holds = record {
+  start_is = here ∙ as_long;
+  holds = subst (λ (d : List ℕ). Holds new.seen (sealed d start) start) same holds;
+  end = subst (λ (d : List ℕ). new.seen.end ≡ start + length (sealed d start)) same (longer.end ∙ ap (λ (n : ℕ). n + length (sealed draft start)) (sym here));
+}
 
 module _ {D : Type 0} where
   -- the log's device was not used by a step behind a search that used it only where it had to
@@ -88,7 +108,7 @@ module _ {D : Type 0} (seen : D → DiskSeen) where
     count = omega arith;
     rest = rest;
     desk = leaves_none seen m.desk;
-    base = refl;
+    came = came_none m.desk m.desk m.frames m.frames refl (follows_none m.frames m.frames refl);
     later = later_same m.log.seen;
     opening = refl;
     kept = λ is. is;
@@ -97,13 +117,37 @@ module _ {D : Type 0} (seen : D → DiskSeen) where
     behind = λ o based before. before;
   }
 
+  -- a call that is at rest may go on, and steps that leave no frame in hand are a call
+  pub under_way : (desk : State D) (s : FramesSeen) (by : Caller) → IsAtRest seen desk s → IsUnderWay seen by desk s
+  under_way desk s by rest = record { tied = rest.tied; settled = rest.settled; hand = inl rest.hands }
+
+  keeps_ending : {Leaves : State D → FramesSeen → Type 0} (Ends : State D → FramesSeen → Type 0) (most : ℕ) (m n : Moment D) → KeepsTo seen Leaves most m n → Ends n.desk n.frames → KeepsTo seen Ends most m n
+  keeps_ending Ends most m n k rest = record {
+    count = k.count;
+    rest = rest;
+    desk = k.desk;
+    came = k.came;
+    later = k.later;
+    opening = k.opening;
+    kept = k.kept;
+    logged = k.logged;
+    known = k.known;
+    behind = k.behind;
+  }
+
+  pub keeps_going : (most : ℕ) (m n : Moment D) (by : Caller) → Keeps seen most m n → Proceeds seen by most m n
+  keeps_going most m n by k = keeps_ending (IsUnderWay seen by) most m n k (under_way n.desk n.frames by k.rest)
+
+  pub keeps_ended : (most : ℕ) (m n : Moment D) (by : Caller) → Proceeds seen by most m n → IsEmptyHanded n.desk → Keeps seen most m n
+  keeps_ended most m n by k none = keeps_ending (IsAtRest seen) most m n k (record { tied = k.rest.tied; settled = k.rest.settled; hands = none })
+
   -- more entries might have been appended
-  pub keeps_most : (a b : ℕ) (m n : Moment D) → a ≤ b → Keeps seen a m n → Keeps seen b m n
+  pub keeps_most : {Leaves : State D → FramesSeen → Type 0} (a b : ℕ) (m n : Moment D) → a ≤ b → KeepsTo seen Leaves a m n → KeepsTo seen Leaves b m n
   keeps_most a b m n le k = record {
     count = omega (arith, le, k.count);
     rest = k.rest;
     desk = k.desk;
-    base = k.base;
+    came = k.came;
     later = k.later;
     opening = k.opening;
     kept = k.kept;
@@ -117,28 +161,28 @@ module _ {D : Type 0} (seen : D → DiskSeen) where
   keeps_reserved most old new s l same rest = subst (λ (d : State D). Keeps seen most (moment old s l) (moment d s l)) (sym same) (keeps_most 0 most (moment old s l) (moment old s l) (omega arith) (keeps_none (moment old s l) rest))
 
   -- one step behind another
-  pub keeps_on : (a b : ℕ) (l m n : Moment D) → Keeps seen a l m → Keeps seen b m n → Keeps seen (a + b) l n
+  pub keeps_on : {Leaves Ends : State D → FramesSeen → Type 0} (a b : ℕ) (l m n : Moment D) → KeepsTo seen Leaves a l m → KeepsTo seen Ends b m n → KeepsTo seen Ends (a + b) l n
   keeps_on a b l m n x y = record {
     count = omega (arith, x.count, y.count);
     rest = y.rest;
     desk = leaves_on seen l.desk m.desk n.desk x.desk y.desk;
-    base = y.base ∙ x.base;
+    came = came_on l.desk m.desk n.desk l.frames m.frames n.frames x.came y.came;
     later = later_on l.log.seen m.log.seen n.log.seen x.later y.later;
     opening = y.opening ∙ x.opening;
     kept = λ is. y.kept (x.kept is);
     logged = λ is. y.logged (x.logged is);
     known = λ is. y.known (x.known is);
-    behind = λ o based before. y.behind o (subst (λ (b : Option (PageId → Option Content)). IfSome b (λ base. base ≡ o.base)) (sym x.base) based) (x.behind o based before);
+    behind = λ o based before. y.behind o (subst (λ (b : Option (PageId → Option Content)). IfSome b (λ base. base ≡ o.base)) (sym x.came.view.base) based) (x.behind o based before);
   }
 
   -- one entry came which tells nothing of the log, and the disk was used
-  pub keeps_more : (old new : State D) (s t : FramesSeen) (l : LogSeen) → IsOneMore old.history new.history → LeavesDesk seen old new → IsAtRest seen new t → t.base ≡ s.base
+  pub keeps_more : (old new : State D) (s t : FramesSeen) (l : LogSeen) → IsOneMore old.history new.history → LeavesDesk seen old new → IsAtRest seen new t → Came old new s t
       → ((o : Opened) → IfSome s.base (λ base. base ≡ o.base) → IsBehind seen o old s → IsBehind seen o new t) → Keeps seen 1 (moment old s l) (moment new t l)
-  keeps_more old new s t l one desk rest base behind = record {
+  keeps_more old new s t l one desk rest came behind = record {
     count = let e = one.count in omega (arith, e);
     rest = rest;
     desk = desk;
-    base = base;
+    came = came;
     later = later_same l.seen;
     opening = refl;
     kept = λ is. is;
@@ -149,13 +193,13 @@ module _ {D : Type 0} (seen : D → DiskSeen) where
 
   -- one entry was appended, and the log has of it what it needs
   pub keeps_entry : (old new : State D) (s t : FramesSeen) (l : LogSeen) (by : Caller) (k : Kind) → IsAppended old new by k → new.disk ≡ old.disk
-      → IsLoggedKind l.seen k → (log_end old.history ≤ l.seen.end → log_end_after k (log_end old.history) ≤ l.seen.end) → IsAtRest seen new t → t.base ≡ s.base
+      → IsLoggedKind l.seen k → (log_end old.history ≤ l.seen.end → log_end_after k (log_end old.history) ≤ l.seen.end) → IsAtRest seen new t → Follows (next_entry old by k ∷ []) s t
       → ((o : Opened) → IfSome s.base (λ base. base ≡ o.base) → IsBehind seen o old s → IsBehind seen o new t) → Keeps seen 1 (moment old s l) (moment new t l)
-  keeps_entry old new s t l by k a disk logged known rest base behind = record {
+  keeps_entry old new s t l by k a disk logged known rest view behind = record {
     count = let e = ap (length {A = Entry}) a.history in omega (arith, e);
     rest = rest;
     desk = leaves_more seen old old new (leaves_none seen old) a.config a.instance disk;
-    base = base;
+    came = came_one old new s t by k a view;
     later = later_same l.seen;
     opening = refl;
     kept = λ is. is;
@@ -165,12 +209,13 @@ module _ {D : Type 0} (seen : D → DiskSeen) where
   }
 
   -- the log alone went on
-  pub keeps_log : (desk : State D) (s : FramesSeen) (l k : LogSeen) → IsAtRest seen desk s → IsLater l.seen k.seen → k.opening ≡ l.opening → IsKept k.seen k.told → Keeps seen 0 (moment desk s l) (moment desk s k)
-  keeps_log desk s l k rest later opening kept = record {
+  pub keeps_log : (Leaves : State D → FramesSeen → Type 0) (desk : State D) (s : FramesSeen) (l k : LogSeen) → Leaves desk s → IsLater l.seen k.seen → k.opening ≡ l.opening → IsKept k.seen k.told
+      → KeepsTo seen Leaves 0 (moment desk s l) (moment desk s k)
+  keeps_log Leaves desk s l k rest later opening kept = record {
     count = omega arith;
     rest = rest;
     desk = leaves_none seen desk;
-    base = refl;
+    came = came_none desk desk s s refl (follows_none s s refl);
     later = later;
     opening = opening;
     kept = λ before. kept;
@@ -179,32 +224,39 @@ module _ {D : Type 0} (seen : D → DiskSeen) where
     behind = λ o based before. before;
   }
 
+  pub read_under_way : (old mid : State D) (s t : FramesSeen) (by : Caller) → OnlyReads seen old mid → t ≡ s → AreTied seen t mid → IsUnderWay seen by old s → IsUnderWay seen by mid t
+  read_under_way old mid s t by reads same tied rest = record {
+    tied = tied;
+    settled = subst (λ (x : FramesSeen). AreSettled x.rows) (sym same) rest.settled;
+    hand = hand_still old mid by reads.config reads.history rest.hand;
+  }
+
   -- the disk alone was read
-  pub keeps_read : (old mid : State D) (s t : FramesSeen) (l : LogSeen) → mid.config ≡ old.config → mid.instance ≡ old.instance → mid.history ≡ old.history → IsSameDisk (seen old.disk) (seen mid.disk)
-      → t ≡ s → AreTied seen t mid → AreSettled s.rows → ((o : Opened) → IsBehind seen o old s → IsBehind seen o mid t) → Keeps seen 0 (moment old s l) (moment mid t l)
-  keeps_read old mid s t l config instance history disk same tied settled behind = record {
-    count = let e = ap (length {A = Entry}) history in omega (arith, e);
-    rest = record { tied = tied; settled = subst (λ (x : FramesSeen). AreSettled x.rows) (sym same) settled };
-    desk = leaves_told seen old mid config instance disk;
-    base = ap (λ (x : FramesSeen). x.base) same;
+  pub keeps_read : (Leaves : State D → FramesSeen → Type 0) (old mid : State D) (s t : FramesSeen) (l : LogSeen) → OnlyReads seen old mid
+      → t ≡ s → Leaves mid t → ((o : Opened) → IsBehind seen o old s → IsBehind seen o mid t) → KeepsTo seen Leaves 0 (moment old s l) (moment mid t l)
+  keeps_read Leaves old mid s t l reads same rest behind = record {
+    count = let e = ap (length {A = Entry}) reads.history in omega (arith, e);
+    rest = rest;
+    desk = leaves_told seen old mid reads.config reads.instance reads.disk;
+    came = came_none old mid s t reads.history (follows_none s t same);
     later = later_same l.seen;
     opening = refl;
     kept = λ is. is;
-    logged = λ is. subst (λ (h : List Entry). IsLogged l.seen h) (sym history) is;
-    known = λ is. let e = ap log_end history in omega (arith, e, is);
+    logged = λ is. subst (λ (h : List Entry). IsLogged l.seen h) (sym reads.history) is;
+    known = λ is. let e = ap log_end reads.history in omega (arith, e, is);
     behind = λ o based before. behind o before;
   }
 
   -- the frames were looked at
   pub rest_looked : (s t : FramesSeen) (desk : State D) → HasLooked s t → IsAtRest seen desk s → IsAtRest seen desk t
-  rest_looked s t desk looked rest = record { tied = tied_looked seen s t desk looked rest.tied; settled = subst AreSettled (sym (ap (λ (u : FramesSeen). u.rows) looked.is)) rest.settled }
+  rest_looked s t desk looked rest = record { tied = tied_looked seen s t desk looked rest.tied; settled = subst AreSettled (sym (ap (λ (u : FramesSeen). u.rows) looked.is)) rest.settled; hands = rest.hands }
 
   pub keeps_looked : (desk : State D) (s t : FramesSeen) (l : LogSeen) → HasLooked s t → IsAtRest seen desk s → Keeps seen 0 (moment desk s l) (moment desk t l)
   keeps_looked desk s t l looked rest = record {
     count = omega arith;
     rest = rest_looked s t desk looked rest;
     desk = leaves_none seen desk;
-    base = ap (λ (u : FramesSeen). u.base) looked.is;
+    came = came_none desk desk s t refl (record { turn = ap (λ (u : FramesSeen). u.turn) looked.is; opened = ap (λ (u : FramesSeen). u.opened) looked.is; history = ap (λ (u : FramesSeen). u.history) looked.is; base = ap (λ (u : FramesSeen). u.base) looked.is });
     later = later_same l.seen;
     opening = refl;
     kept = λ is. is;
@@ -214,12 +266,12 @@ module _ {D : Type 0} (seen : D → DiskSeen) where
   }
 
   -- places for the entries that are still to come
-  pub places_on : (a b : ℕ) (m n : Moment D) → Keeps seen a m n → m.desk.config.first + length m.desk.history + (a + b) < 2 ^ 48 → n.desk.config.first + length n.desk.history + b < 2 ^ 48
+  pub places_on : {Leaves : State D → FramesSeen → Type 0} (a b : ℕ) (m n : Moment D) → KeepsTo seen Leaves a m n → m.desk.config.first + length m.desk.history + (a + b) < 2 ^ 48 → n.desk.config.first + length n.desk.history + b < 2 ^ 48
   places_on a b m n k places =
       let first = ap (λ (c : Config). c.first) k.desk.config in let count = k.count in omega (arith, first, count, places)
 
   -- the caller's page may come into the frame that was had
-  pub take_on : (a : ℕ) (m n : Moment D) (by : Caller) (p : PageId) (f : ℕ) → Had seen m n by p f → Keeps seen a m n → MayTake seen m.frames m.desk by p → MayTake seen n.frames n.desk by p
+  pub take_on : {Leaves : State D → FramesSeen → Type 0} (a : ℕ) (m n : Moment D) (by : Caller) (p : PageId) (f : ℕ) → Had seen m n by p f → KeepsTo seen Leaves a m n → MayTake seen m.frames m.desk by p → MayTake seen n.frames n.desk by p
   take_on a m n by p f had k may = record {
     caller = still_may m.frames n.frames m.desk n.desk by p had.turn k.desk.config k.desk.instance may.caller;
     absent = had.sought.absent;
@@ -235,6 +287,7 @@ module _ {D : Type 0} (seen : D → DiskSeen) where
         (inside_below (seen m.desk.disk).spaces p may.inside) few may.absent u.unmoved u.refused;
     unused = unforced_unused m.log n.log e u.unforced;
     log = u.sought.log;
+    as_long = u.sought.as_long;
     covered = device_used m n.log n.log refl refl u.sought.covered;
   }
 
@@ -245,8 +298,57 @@ module _ {D : Type 0} (seen : D → DiskSeen) where
     refused = unhad_refused seen m.desk n.desk m.frames.rows n.frames.rows by held p now m.log.seen.durable m.log.seen.faults n.log.seen.faults e
         (inside_below (seen m.desk.disk).spaces p may.inside) few may.absent u.unmoved u.refused;
     log = u.sought.log;
+    as_long = u.sought.as_long;
     idle = needs_a_frame seen m.desk held p may.absent (inside_below (seen m.desk.disk).spaces p may.inside) few u.sought.free;
     covered = u.sought.covered;
     unused = unforced_unlogged m.log n.log e u.unforced;
     unsound = λ o bad before is. absurd (unhad_no_bad e bad is);
   }
+
+  -- a fix was refused, and the log was not used
+  pub unfixed_still : (old new : State D) (s t : FramesSeen) (l : LogSeen) (by : Caller) (held : ℕ) (p : PageId) (now : ℕ) (e : FixErr) (why : Cause)
+      → IsFixRefusal seen old new s.rows t.rows by held p now l.seen.durable l.seen.faults l.seen.faults e → IsRefused old new by (call.Fix p now) why → IsUnlogged l l e → ((bad : BadPage) → e ≡ unfix.BadPage bad → ⊥)
+      → Unfixed seen (moment old s l) (moment new t l) by held p now e
+  unfixed_still old new s t l by held p now e why refused entry unused sound = record {
+    refused = refused;
+    log = uses_refused (moment old s l) (moment new t l) by (call.Fix p now) why entry refl;
+    as_long = refl;
+    idle = λ none. refl;
+    covered = inl refl;
+    unused = unused;
+    unsound = λ o bad before is. absurd (sound bad is);
+  }
+
+  -- and so a create
+  pub uncreated_still : (old new : State D) (s t : FramesSeen) (l : LogSeen) (by : Caller) (held : ℕ) (p : PageId) (now : ℕ) (e : CreateErr) (why : Cause)
+      → IsCreateRefusal seen old new s.rows t.rows by held p now l.seen.durable l.seen.end l.seen.end l.seen.faults l.seen.faults e → IsRefused old new by (call.Create p now) why → IsUnused l l e
+      → Uncreated seen (moment old s l) (moment new t l) by held p now e
+  uncreated_still old new s t l by held p now e why refused entry unused = record {
+    refused = refused;
+    unused = unused;
+    log = uses_refused (moment old s l) (moment new t l) by (call.Create p now) why entry refl;
+    as_long = refl;
+    covered = device_used (moment old s l) l l refl refl (inl refl);
+  }
+
+  -- Behind the tests that fix and create share: the page of a caller that may fix it may come into a frame, where it has none.
+  pub may_fix : (m : Moment D) (by : Caller) (held : ℕ) (p : PageId) → IsReady seen m by → IsAsked m.frames m.desk held p → held < 64 → MayFix m.frames m.desk by p
+  may_fix m by held p ready asked few = record { turn = ready.turn; own = asked.own; few = few_held m.frames.opened held few asked.held_is }
+
+  pub may_take : (m : Moment D) (by : Caller) (held : ℕ) (p : PageId) → IsReady seen m by → IsAsked m.frames m.desk held p → held < 64 → p.page < pages_in (seen m.desk.disk).spaces p.space
+      → home m.desk.history p ≡ None → is_dirty m.desk.history p ≡ false → MayTake seen m.frames m.desk by p
+  may_take m by held p ready asked few within absent clean = record {
+    caller = may_fix m by held p ready asked few;
+    absent = absent;
+    inside = inside_of (seen m.desk.disk).spaces p within;
+    clean = clean;
+  }
+
+  -- each of those tests may refuse the call
+  pub outside_refusable : (m : Moment D) (by : Caller) (held : ℕ) (p : PageId) (asked : Call) (pages : ℕ) → IsReady seen m by → IsAsked m.frames m.desk held p → AsksFor p asked → cause_words asked (cause.NoSuchPage pages) ≡ []
+      → IsRefusable m.frames m.desk by p asked (cause.NoSuchPage pages)
+  outside_refusable m by held p asked pages ready is for_page words = record { turn = ready.turn; own = is.own; for_page = for_page; may = record { words = words; fits = any_open m.frames.opened } }
+
+  pub full_refusable : (m : Moment D) (by : Caller) (held : ℕ) (p : PageId) (asked : Call) (full : ℕ) → IsReady seen m by → IsAsked m.frames m.desk held p → AsksFor p asked → cause_words asked (cause.HoldFull full) ≡ [] → 64 ≤ held
+      → IsRefusable m.frames m.desk by p asked (cause.HoldFull full)
+  full_refusable m by held p asked full ready is for_page words most = record { turn = ready.turn; own = is.own; for_page = for_page; may = record { words = words; fits = full_held m.frames.opened held most is.held_is } }

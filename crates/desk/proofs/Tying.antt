@@ -2,7 +2,7 @@
 use Rattle.std.specs.Prelude.{not, ◌&&◌}
 use Rattle.std.specs.Option.{is_some, option_map, option_map_or}
 use Rattle.std.proofs.Common.{◌≡◌, ℕ, List, ◌∷◌, Option, None, Some, ◌<◌, ◌≤◌, ◌^◌, ◌+◌, Bool, true, false, cond, length, get_or, set, refl, sym, ap, ◌∙◌, subst, arith, IfSome, IsSome, eq-eqb, nat_eq, length-set}
-use Rattle.page_ids.specs.Chunks.{instance_of}
+use Rattle.page_ids.specs.Instances.{instance_of}
 use Rattle.page_ids.specs.Content.{Content}
 use Rattle.page_ids.specs.Layout.{IsPage}
 use Rattle.page_ids.specs.Same.{same_page}

@@ -1,25 +1,24 @@
 -- What stands on the disk and in the frames, as a page leaves its frame.
-use Rattle.std.proofs.Common.{◌≡◌, ℕ, Bool, true, false, cond, List, [], ◌∷◌, Option, Some, None, refl, ap, ◌∙◌, sym, subst, IfSome, IsSome}
-use Rattle.std.specs.Option.{is_some, option_map, unwrap_or}
-use Rattle.page_ids.specs.Content.{Content, patched}
+use Rattle.std.proofs.Common.{◌≡◌, ℕ, Bool, true, false, cond, List, ◌∷◌, Option, Some, None, refl, ap, ◌∙◌, sym, subst, IfSome, IsSome}
+use Rattle.std.specs.Option.{is_some, unwrap_or}
+use Rattle.page_ids.specs.Content.{Content}
 use Rattle.page_ids.specs.Layout.{IsPage}
 use Rattle.page_ids.specs.Same.{same_page}
 use Rattle.page_ids.specs.declared.config.Config.{Config}
 use Rattle.page_ids.specs.declared.frame_word.Word.{Word}
 use Rattle.page_ids.specs.declared.ids.PageId.{PageId}
 use Rattle.page_disk.specs.Disks.{DiskSeen, Fades, IsOtherwiseSame}
-use Rattle.trail.specs.declared.event.Dirty.{Dirty}
 use Rattle.trail.specs.declared.event.Entry.{Entry}
 use Rattle.trail.specs.declared.event.Kind.{Kind}
 use Rattle.trail.specs.declared.event.Kind.TheVariants as kind
-use Rattle.trail.specs.History.{value, value_after, home}
-use Rattle.trail.specs.Dirt.{dirtied, cleaned, dirty, dirty_after, dirt_of, is_dirty}
+use Rattle.trail.specs.History.{value, home}
+use Rattle.trail.specs.Dirt.{cleaned, dirty, dirt_of, is_dirty}
 use Rattle.trail.specs.Saved.{is_written, saved}
 use Rattle.frame_words.specs.Seen.{FramesSeen, row_at}
 use Rattle.desk.specs.Base.{Opened}
 use Rattle.desk.specs.Behind.{IsBehind, IsValueIn}
 use Rattle.desk.specs.State.{State}
-use Rattle.instance_lists.proofs.Dirt.{no_way, same_is, dirtied_here, dirtied_other, cleaned_of}
+use Rattle.instance_lists.proofs.Dirt.{no_way, same_is}
 use Rattle.desk.proofs.BehindParts.{IsStill, clean_other, fades_keeps}
 
 -- a desk of these parts

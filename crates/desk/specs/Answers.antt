@@ -1,9 +1,10 @@
 -- What the calls are asked, and what they answer.
-use Rattle.std.specs.Prelude.{ℕ, false, ◌≡◌, ◌<◌, ◌≤◌, ◌+◌, ◌^◌, ◌⊎◌, List, Result, Ok, Err, None, Some, IfSome, IsSome, length}
+use Rattle.std.specs.Prelude.{ℕ, false, ◌≡◌, ◌<◌, ◌≤◌, ◌+◌, ◌⊎◌, List, Result, Ok, Err, None, Some, IfSome, IsSome, length}
 use Rattle.page_ids.specs.Content.{IsRange}
 use Rattle.page_ids.specs.Size.{page_bytes}
 use Rattle.page_ids.specs.declared.ids.PageId.{PageId}
 use Rattle.page_ids.specs.declared.layout.BadPage.{BadPage}
+use Rattle.page_ids.specs.declared.limits.TheConstants.{LAST_LSN, MOST_FIXES, RECORD_BYTES}
 use Rattle.page_disk.specs.Disks.{DiskSeen, pages_in, IsInside}
 use Rattle.redo_mark.specs.declared.record.Span.{Span}
 use Rattle.trail.specs.declared.event.Call.{Call}
@@ -21,7 +22,8 @@ use Rattle.desk.specs.Creating.{IsCreatedBy, IsCreateRefusal, IsUnused}
 use Rattle.desk.specs.Fixing.{IsGrantedBy, IsFixRefusal, IsUnlogged, NeedsNoVictim}
 use Rattle.instance_lists.specs.Ledger.{IsVacant}
 use Rattle.desk.specs.Loads.{MayFix, MayRefuse}
-use Rattle.desk.specs.Moments.{Moment, UsesLog, IsSameDevice}
+use Rattle.desk.specs.Logged.{create_change, put_change}
+use Rattle.desk.specs.Moments.{IsEmptyHanded, Moment, UsesLog, IsAsLong, Adds, IsSameDevice}
 use Rattle.desk.specs.State.{State}
 use Rattle.desk.specs.Steps.{IsRefused, IsLoaded}
 use Rattle.desk.specs.Tied.{HasTurn, IsOwn}
@@ -39,7 +41,7 @@ use Rattle.desk.specs.declared.calls.PutErr.{PutErr}
 -- what a public call is asked: the page is one of the instance, and the caller holds so many fixes
 pub record IsAsked {D : Type 0} (frames : FramesSeen) (desk : State D) (held : ℕ) (p : PageId) : Type 0 where
   pub own : IsOwn frames desk p
-  pub held_is : IfSome frames.opened (λ opened. (length opened ≡ held) × (held ≤ 64))
+  pub held_is : IfSome frames.opened (λ opened. (length opened ≡ held) × (held ≤ MOST_FIXES))
 
 -- the call of this caller may be refused for this cause
 pub record IsRefusable {D : Type 0} (frames : FramesSeen) (desk : State D) (by : Caller) (p : PageId) (asked : Call) (why : Cause) : Type 0 where
@@ -82,6 +84,7 @@ pub record HasSought {D : Type 0} (seen : D → DiskSeen) (m n : Moment D) (p : 
   pub free : IsSome (frame_in_turn (book m.desk.config m.desk.history)) → n.log ≡ m.log
   pub covered : (n.log ≡ m.log) ⊎ MustCover m.desk m.frames.rows m.log.seen.durable
   pub log : UsesLog m n
+  pub as_long : IsAsLong m.log n.log
   pub behind : (o : Opened) → IsBehind seen o m.desk m.frames → IsBehind seen o n.desk n.frames
 
 pub record Had {D : Type 0} (seen : D → DiskSeen) (m n : Moment D) (by : Caller) (p : PageId) (f : ℕ) : Type 0 where
@@ -95,6 +98,7 @@ pub record Unhad {D : Type 0} (seen : D → DiskSeen) (m n : Moment D) (by : Cal
   pub refused : IsUnhad m.desk n.desk m.frames.rows by p asked (seen m.desk.disk).faults (seen n.desk.disk).faults m.log.seen.durable m.log.seen.faults n.log.seen.faults e
   pub unmoved : n.frames.rows ≡ m.frames.rows
   pub unforced : IsUnforced m.log n.log e
+  pub hands : IsEmptyHanded n.desk
 
 -- A frame for the page was had, or none was.
 abbrev pub HasFrameFor : {D : Type 0} → (D → DiskSeen) → Moment D → Moment D → Caller → PageId → Call → Result ℕ FrameErr → Type 0
@@ -109,8 +113,9 @@ pub record Loads {D : Type 0} (seen : D → DiskSeen) (old new : State D) (s t :
 pub record Fixed {D : Type 0} (seen : D → DiskSeen) (m n : Moment D) (by : Caller) (held : ℕ) (p : PageId) (now : ℕ) (g : Granted) : Type 0 where
   pub granted : IsGrantedBy seen m.desk n.desk m.frames.rows n.frames.rows by p now g
   pub inside : p.page < pages_in (seen m.desk.disk).spaces p.space
-  pub few : held < 64
+  pub few : held < MOST_FIXES
   pub log : UsesLog m n
+  pub as_long : IsAsLong m.log n.log
   -- the log is as it was where no page has to leave, and where it was durable up to the newest change of the page that has to
   pub idle : NeedsNoVictim seen m.desk held p → n.log ≡ m.log
   pub covered : (n.log ≡ m.log) ⊎ MustCover m.desk m.frames.rows m.log.seen.durable
@@ -119,6 +124,7 @@ pub record Fixed {D : Type 0} (seen : D → DiskSeen) (m n : Moment D) (by : Cal
 pub record Unfixed {D : Type 0} (seen : D → DiskSeen) (m n : Moment D) (by : Caller) (held : ℕ) (p : PageId) (now : ℕ) (e : FixErr) : Type 0 where
   pub refused : IsFixRefusal seen m.desk n.desk m.frames.rows n.frames.rows by held p now m.log.seen.durable m.log.seen.faults n.log.seen.faults e
   pub log : UsesLog m n
+  pub as_long : IsAsLong m.log n.log
   pub idle : NeedsNoVictim seen m.desk held p → n.log ≡ m.log
   pub covered : (n.log ≡ m.log) ⊎ MustCover m.desk m.frames.rows m.log.seen.durable
   pub unused : IsUnlogged m.log n.log e
@@ -133,20 +139,22 @@ Fixes seen m n by held p now (Err e) = Unfixed seen m n by held p now e
 -- the record of a create stands behind all of the history's
 pub record IsCreateSpan {D : Type 0} (desk : State D) (span : Span) : Type 0 where
   pub start : log_end desk.history ≤ span.start
-  pub end : span.end ≡ span.start + 21
+  pub end : span.end ≡ span.start + RECORD_BYTES
 
 pub record Created {D : Type 0} (seen : D → DiskSeen) (m n : Moment D) (by : Caller) (held : ℕ) (p : PageId) (now : ℕ) (g : Granted) : Type 0 where
   pub made : IsCreatedBy m.desk n.desk m.frames.rows n.frames.rows by p now m.log.seen.end n.log.seen.end g
   pub inside : p.page < pages_in (seen m.desk.disk).spaces p.space
-  pub few : held < 64
-  pub fits : m.log.seen.end + 21 ≤ 2 ^ 63
+  pub few : held < MOST_FIXES
+  pub fits : m.log.seen.end + RECORD_BYTES ≤ LAST_LSN
   pub log : UsesLog m n
+  pub logged : Adds m.log n.log (create_change p) made.start
   pub covered : IsSameDevice m.log n.log ⊎ MustCover m.desk m.frames.rows m.log.seen.durable
 
 pub record Uncreated {D : Type 0} (seen : D → DiskSeen) (m n : Moment D) (by : Caller) (held : ℕ) (p : PageId) (now : ℕ) (e : CreateErr) : Type 0 where
   pub refused : IsCreateRefusal seen m.desk n.desk m.frames.rows n.frames.rows by held p now m.log.seen.durable m.log.seen.end n.log.seen.end m.log.seen.faults n.log.seen.faults e
   pub unused : IsUnused m.log n.log e
   pub log : UsesLog m n
+  pub as_long : IsAsLong m.log n.log
   pub covered : IsSameDevice m.log n.log ⊎ MustCover m.desk m.frames.rows m.log.seen.durable
 
 -- A page was made, or wasn't.
@@ -161,11 +169,12 @@ pub record IsPutAsked {D : Type 0} (frames : FramesSeen) (desk : State D) (p : P
   pub resident : IsSome (home desk.history p)
   pub range : IsRange (page_bytes desk.config.page) at count
 
--- the bytes were changed, and the record of that stands in the log; no device was used
+-- the bytes were changed, and just the record of that was put into the log; no device was used
 pub record Changed {D : Type 0} (seen : D → DiskSeen) (m n : Moment D) (by : Caller) (p : PageId) (at : ℕ) (bytes : List ℕ) (d : PutDone) : Type 0 where
   pub done : IsPutBy m.desk n.desk m.frames.rows n.frames.rows by p at bytes d
-  pub span : (m.log.seen.end + 21 + length bytes ≤ d.lsn) × (d.lsn ≤ n.log.seen.end)
-  pub fits : m.log.seen.end + 21 + length bytes ≤ 2 ^ 63
+  pub logged : Adds m.log n.log (put_change p at bytes) done.start
+  pub span : (m.log.seen.end + RECORD_BYTES + length bytes ≤ d.lsn) × (d.lsn ≤ n.log.seen.end)
+  pub fits : m.log.seen.end + RECORD_BYTES + length bytes ≤ LAST_LSN
   pub device : IsSameDevice m.log n.log
   pub behind : (o : Opened) → IsBehind seen o m.desk m.frames → IsBehind seen o n.desk n.frames
 

@@ -1,11 +1,11 @@
 -- What a put does, and what a clean does.
-use Rattle.std.specs.Prelude.{ℕ, zero, suc, List, [], ◌∷◌, ◌≡◌, ◌+◌, ◌-◌, ◌<◌, ◌≤◌, ◌^◌, ◌++◌, ◌⊎◌, Bool, true, Some, length, slice_set, nat_le, if◌then◌else◌, ⊤}
+use Rattle.std.specs.Prelude.{ℕ, zero, suc, List, [], ◌∷◌, ◌≡◌, ◌+◌, ◌<◌, ◌≤◌, ◌^◌, ◌++◌, ◌⊎◌, true, Some, length, slice_set, nat_le, if◌then◌else◌, ⊤}
 use Rattle.page_ids.specs.Content.{Content, patched}
 use Rattle.page_ids.specs.Layout.{IsPage}
 use Rattle.page_ids.specs.declared.ids.PageId.{PageId}
+use Rattle.page_ids.specs.declared.limits.TheConstants.{LAST_LSN, RECORD_BYTES}
 use Rattle.page_disk.specs.Disks.{DiskSeen}
 use Rattle.trail.specs.declared.event.Call.TheVariants as call
-use Rattle.trail.specs.declared.event.Cause.{Cause}
 use Rattle.trail.specs.declared.event.Cause.TheVariants as cause
 use Rattle.trail.specs.declared.event.Dirty.{Dirty}
 use Rattle.trail.specs.declared.event.Kind.{Kind}
@@ -24,8 +24,6 @@ use Rattle.desk.specs.declared.calls.Caller.{Caller}
 use Rattle.desk.specs.declared.calls.PutDone.{PutDone}
 use Rattle.desk.specs.declared.calls.PutErr.{PutErr}
 use Rattle.desk.specs.declared.calls.PutErr.TheVariants as unput
-use Rattle.desk.specs.declared.calls.CleanErr.{CleanErr}
-use Rattle.desk.specs.declared.calls.CleanErr.TheVariants as unclean
 use Rattle.desk.specs.declared.flush.WriteErr.{WriteErr}
 use Rattle.desk.specs.declared.flush.WriteErr.TheVariants as unwritten
 
@@ -40,7 +38,7 @@ pub record IsPutBy {D : Type 0} (old new : State D) (rows rows' : List Row) (by 
   pub start : ℕ
   pub resident : home old.history p ≡ Some frame
   pub image : Uncovers (row_in rows frame).image (Some (Some content))
-  pub lsn : done.lsn ≡ start + 21 + length bytes
+  pub lsn : done.lsn ≡ start + RECORD_BYTES + length bytes
   pub place : done.place ≡ mark old.config.first old.history + 1
   pub entry : IsAppended old new by (kind.Put p at bytes start done.lsn)
   pub rows_are : rows' ≡ slice_set rows frame (changed_row (row_in rows frame) (patched content at bytes done.lsn) done.place)
@@ -49,7 +47,7 @@ pub record IsPutBy {D : Type 0} (old new : State D) (rows rows' : List Row) (by 
 -- the log ended here at the refusal, and the record would end above 2^63; the page is as it was
 pub record IsSpentBy {D : Type 0} (old new : State D) (by : Caller) (p : PageId) (at : ℕ) (bytes : List ℕ) (first last end : ℕ) : Type 0 where
   pub known : (first ≤ end) × (end ≤ last)
-  pub beyond : 2 ^ 63 < end + 21 + length bytes
+  pub beyond : LAST_LSN < end + RECORD_BYTES + length bytes
   pub entry : IsAppended old new by (kind.Refused (call.Put p at bytes) (cause.LogSpent end))
   pub disk : new.disk ≡ old.disk
 
@@ -154,22 +152,3 @@ pub record IsCleaned {D : Type 0} (old new : State D) (by : Caller) (bound writt
   pub cleaned : IsCleanedBy old new by written (kind.Clean written [])
   pub most : written ≤ bound
   pub all : (written ≡ bound) ⊎ (dirty new.history ≡ [])
-
--- where a clean fails that has written so many: a page was still to be written; or, with `sync`, none was
-abbrev pub IsStop : ℕ → ℕ → Bool → List Dirty → Type 0
-IsStop written bound sync left = ((written < bound) × (0 < length left)) ⊎ ((sync ≡ true) × ((written ≡ bound) ⊎ (left ≡ [])))
-
--- a refused clean keeps what it had written before the device failed
-pub record IsUncleaned {D : Type 0} (old new : State D) (by : Caller) (bound : ℕ) (sync : Bool) (why : Cause) : Type 0 where
-  pub written : ℕ
-  pub cleaned : IsCleanedBy old new by written (kind.Refused (call.Clean bound) why)
-  pub most : written ≤ bound
-  pub stop : IsStop written bound sync (dirty new.history)
-
--- why a clean was refused, and what stands then; the devices' counts of faults went from the first to the second
-abbrev pub IsCleanRefusal : {D : Type 0} → State D → State D → Caller → ℕ → Bool → ℕ → ℕ → ℕ → ℕ → CleanErr → Type 0
-IsCleanRefusal old new by bound sync disk_was disk_is log_was log_is unclean.OutOfMemory = new ≡ old
-IsCleanRefusal old new by bound sync disk_was disk_is log_was log_is (unclean.RedoFault before after) =
-    RoseWithin log_was log_is before after × (un : IsUncleaned old new by bound sync (cause.RedoFault before after)) × (un.written ≡ 0 → new.disk ≡ old.disk)
-IsCleanRefusal old new by bound sync disk_was disk_is log_was log_is (unclean.DiskFault before after) =
-    RoseWithin disk_was disk_is before after × IsUncleaned old new by bound sync (cause.DiskFault before after)

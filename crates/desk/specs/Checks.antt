@@ -10,6 +10,7 @@ use Rattle.frame_words.specs.Seen.{FramesSeen}
 use Rattle.desk.specs.Base.{Opened}
 use Rattle.desk.specs.Behind.{IsBehind}
 use Rattle.desk.specs.Logged.{IsLogged}
+use Rattle.desk.specs.Moments.{IsEmptyHanded}
 use Rattle.desk.specs.State.{State}
 use Rattle.desk.specs.Steps.{IsAppended, next_entry}
 use Rattle.desk.specs.Tied.{AreTied}
@@ -33,6 +34,7 @@ pub record Checked {D : Type 0} (seen : D → DiskSeen) (old new : State D) (log
   pub logged : IsLogged log old.history → IsLogged log new.history
   pub known : log_end new.history ≤ log.end
   pub tied : (s : FramesSeen) → AreTied seen s old → AreTied seen (appended s (next_entry old by (kind.Check lsn))) new
+  pub hands : IsEmptyHanded old → IsEmptyHanded new
   pub behind : (o : Opened) (s : FramesSeen) → IsBehind seen o old s → IsBehind seen o new (appended s (next_entry old by (kind.Check lsn)))
 
 -- A checkpoint was answered, or nothing happened.

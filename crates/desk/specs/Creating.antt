@@ -1,8 +1,9 @@
 -- What a create does, and why it is refused.
-use Rattle.std.specs.Prelude.{ℕ, List, ◌≡◌, ◌+◌, ◌<◌, ◌≤◌, ◌^◌, ◌⊎◌, ⊤, None, Some, replicate, slice_set}
+use Rattle.std.specs.Prelude.{ℕ, List, ◌≡◌, ◌+◌, ◌<◌, ◌≤◌, ◌^◌, ⊤, None, Some, replicate, slice_set}
 use Rattle.page_ids.specs.Content.{Content}
 use Rattle.page_ids.specs.Size.{page_bytes}
 use Rattle.page_ids.specs.declared.ids.PageId.{PageId}
+use Rattle.page_ids.specs.declared.limits.TheConstants.{LAST_LSN, MOST_FIXES, RECORD_BYTES}
 use Rattle.page_disk.specs.Disks.{DiskSeen, pages_in}
 use Rattle.trail.specs.declared.event.Call.TheVariants as call
 use Rattle.trail.specs.declared.event.Cause.TheVariants as cause
@@ -39,9 +40,9 @@ pub record IsMade {D : Type 0} (old new : State D) (rows rows' : List Row) (by :
   pub frame : frame_in_turn (book old.config old.history) ≡ Some g.frame
   pub place : g.place ≡ mark old.config.first old.history + 1
   pub clock : g.clock ≡ g.place
-  pub entry : IsAppended old new by (kind.Create p g.frame start (start + 21) now)
+  pub entry : IsAppended old new by (kind.Create p g.frame start (start + RECORD_BYTES) now)
   pub disk : new.disk ≡ old.disk
-  pub rows_are : rows' ≡ slice_set rows g.frame (made_row (row_in rows g.frame) p (blank_at (page_bytes old.config.page) (start + 21)) g.place)
+  pub rows_are : rows' ≡ slice_set rows g.frame (made_row (row_in rows g.frame) p (blank_at (page_bytes old.config.page) (start + RECORD_BYTES)) g.place)
 
 -- a frame was had, and the page was made in it; the log's end went from `first` to `last`
 pub record IsCreatedBy {D : Type 0} (old new : State D) (rows rows' : List Row) (by : Caller) (p : PageId) (now first last : ℕ) (g : Granted) : Type 0 where
@@ -50,7 +51,7 @@ pub record IsCreatedBy {D : Type 0} (old new : State D) (rows rows' : List Row) 
   pub cleared : List Row
   pub frame_is : IsHad old had rows cleared by g.frame
   pub start : ℕ
-  pub known : (first ≤ start) × (start + 21 ≤ last)
+  pub known : (first ≤ start) × (start + RECORD_BYTES ≤ last)
   pub made : IsMade had new cleared rows' by p now start g
 
 -- the page is resident; nothing else happened
@@ -66,7 +67,7 @@ pub record IsUncreated {D : Type 0} (old new : State D) (rows rows' : List Row) 
   pub frame : ℕ
   pub frame_is : IsHad old had rows rows' by frame
   pub known : (first ≤ end) × (end ≤ last)
-  pub beyond : 2 ^ 63 < end + 21
+  pub beyond : LAST_LSN < end + RECORD_BYTES
   pub entry : IsRefused had new by (call.Create p now) (cause.LogSpent end)
   pub disk : new.disk ≡ had.disk
 
@@ -78,17 +79,17 @@ IsCreateRefusal seen old new rows rows' by held p now durable first last was is 
 IsCreateRefusal seen old new rows rows' by held p now durable first last was is (refusal.HoldFull full) =
     (p.page < pages_in (seen old.disk).spaces p.space) × IsHeldFull old new by (call.Create p now) held full × (rows' ≡ rows)
 IsCreateRefusal seen old new rows rows' by held p now durable first last was is (refusal.Resident f) =
-    (p.page < pages_in (seen old.disk).spaces p.space) × (held < 64) × IsAtHome old new by p now f × (rows' ≡ rows)
+    (p.page < pages_in (seen old.disk).spaces p.space) × (held < MOST_FIXES) × IsAtHome old new by p now f × (rows' ≡ rows)
 IsCreateRefusal seen old new rows rows' by held p now durable first last was is (refusal.AllFixed words) =
-    (p.page < pages_in (seen old.disk).spaces p.space) × (held < 64) × IsUnseated old new rows by p (call.Create p now) words × (rows' ≡ rows)
+    (p.page < pages_in (seen old.disk).spaces p.space) × (held < MOST_FIXES) × IsUnseated old new rows by p (call.Create p now) words × (rows' ≡ rows)
 IsCreateRefusal seen old new rows rows' by held p now durable first last was is (refusal.RedoFault before after) =
-    (p.page < pages_in (seen old.disk).spaces p.space) × (held < 64)
+    (p.page < pages_in (seen old.disk).spaces p.space) × (held < MOST_FIXES)
     × IsUnwritten old new by p (call.Create p now) was is before after (cause.RedoFault before after) × (rows' ≡ rows) × MustCover old rows durable × (new.disk ≡ old.disk)
 IsCreateRefusal seen old new rows rows' by held p now durable first last was is (refusal.DiskFault before after) =
-    (p.page < pages_in (seen old.disk).spaces p.space) × (held < 64)
+    (p.page < pages_in (seen old.disk).spaces p.space) × (held < MOST_FIXES)
     × IsUnwritten old new by p (call.Create p now) (seen old.disk).faults (seen new.disk).faults before after (cause.DiskFault before after) × (rows' ≡ rows) × MustWrite old rows
 IsCreateRefusal seen old new rows rows' by held p now durable first last was is (refusal.LogSpent end) =
-    (p.page < pages_in (seen old.disk).spaces p.space) × (held < 64) × IsUncreated old new rows rows' by p now first last end
+    (p.page < pages_in (seen old.disk).spaces p.space) × (held < MOST_FIXES) × IsUncreated old new rows rows' by p now first last end
 
 -- why a create is refused for which no frame was had
 abbrev pub create_err_of : FrameErr → CreateErr

@@ -2,6 +2,7 @@
 use Rattle.std.specs.Prelude.{ℕ, List, ◌≡◌, ◌<◌, ◌≤◌, ◌⊎◌, None, IsSome, ⊤}
 use Rattle.page_ids.specs.declared.frame_word.Word.{Word}
 use Rattle.page_ids.specs.declared.ids.PageId.{PageId}
+use Rattle.page_ids.specs.declared.limits.TheConstants.{MOST_FIXES}
 use Rattle.page_disk.specs.Disks.{DiskSeen, pages_in}
 use Rattle.trail.specs.declared.event.Call.{Call}
 use Rattle.trail.specs.declared.event.Call.TheVariants as call
@@ -40,7 +41,7 @@ IsGrantedBy seen old new rows rows' by p now g = IsHit old new rows rows' by p n
 -- the caller holds as many fixes as it may; nothing else happened
 pub record IsHeldFull {D : Type 0} (old new : State D) (by : Caller) (asked : Call) (held full : ℕ) : Type 0 where
   pub full_is : full ≡ held
-  pub most : 64 ≤ held
+  pub most : MOST_FIXES ≤ held
   pub entry : IsRefused old new by asked (cause.HoldFull full)
   pub disk : new.disk ≡ old.disk
 
@@ -74,22 +75,22 @@ IsFixRefusal seen old new rows rows' by held p now durable was is (refusal.NoSuc
 IsFixRefusal seen old new rows rows' by held p now durable was is (refusal.HoldFull full) =
     (p.page < pages_in (seen old.disk).spaces p.space) × IsHeldFull old new by (call.Fix p now) held full × (rows' ≡ rows)
 IsFixRefusal seen old new rows rows' by held p now durable was is (refusal.AllFixed words) =
-    (p.page < pages_in (seen old.disk).spaces p.space) × (held < 64) × IsUnseated old new rows by p (call.Fix p now) words × (rows' ≡ rows)
+    (p.page < pages_in (seen old.disk).spaces p.space) × (held < MOST_FIXES) × IsUnseated old new rows by p (call.Fix p now) words × (rows' ≡ rows)
 IsFixRefusal seen old new rows rows' by held p now durable was is (refusal.RedoFault before after) =
-    (p.page < pages_in (seen old.disk).spaces p.space) × (held < 64)
+    (p.page < pages_in (seen old.disk).spaces p.space) × (held < MOST_FIXES)
     × IsUnwritten old new by p (call.Fix p now) was is before after (cause.RedoFault before after) × (rows' ≡ rows) × MustCover old rows durable × (new.disk ≡ old.disk)
 IsFixRefusal seen old new rows rows' by held p now durable was is (refusal.DiskFault before after) =
-    (p.page < pages_in (seen old.disk).spaces p.space) × (held < 64)
+    (p.page < pages_in (seen old.disk).spaces p.space) × (held < MOST_FIXES)
     × ((IsUnwritten old new by p (call.Fix p now) (seen old.disk).faults (seen new.disk).faults before after (cause.DiskFault before after) × (rows' ≡ rows) × MustWrite old rows)
     ⊎ IsUnread seen old rows rows' by p (λ had. ((seen old.disk).faults ≤ (seen had.disk).faults) × IsFaulted seen had new by p now before after))
 IsFixRefusal seen old new rows rows' by held p now durable was is (refusal.BadPage bad) =
-    (p.page < pages_in (seen old.disk).spaces p.space) × (held < 64)
+    (p.page < pages_in (seen old.disk).spaces p.space) × (held < MOST_FIXES)
     × IsUnread seen old rows rows' by p (λ had. IsUnsound seen had new by p now bad)
 
 -- A fix for which no page has to leave: its page is resident or lies outside its space, the caller holds as many as it may, or a frame is free.
 abbrev pub NeedsNoVictim : {D : Type 0} → (D → DiskSeen) → State D → ℕ → PageId → Type 0
 NeedsNoVictim seen desk held p =
-    IsSome (home desk.history p) ⊎ (pages_in (seen desk.disk).spaces p.space ≤ p.page) ⊎ (64 ≤ held) ⊎ IsSome (frame_in_turn (book desk.config desk.history))
+    IsSome (home desk.history p) ⊎ (pages_in (seen desk.disk).spaces p.space ≤ p.page) ⊎ (MOST_FIXES ≤ held) ⊎ IsSome (frame_in_turn (book desk.config desk.history))
 
 -- why a fix is refused for which no frame was had
 abbrev pub fix_err_of : FrameErr → FixErr

@@ -16,3 +16,5 @@ pub mod Creating
 pub mod Moments
 pub mod Answers
 pub mod Making
+pub mod Writing
+pub mod Cleans

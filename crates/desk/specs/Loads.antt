@@ -3,6 +3,7 @@ use Rattle.std.specs.Prelude.{ℕ, List, [], ◌≡◌, ◌<◌, ◌≤◌, ◌+
 use Rattle.page_ids.specs.Content.{Content}
 use Rattle.page_ids.specs.Layout.{IsPage}
 use Rattle.page_ids.specs.declared.ids.PageId.{PageId}
+use Rattle.page_ids.specs.declared.limits.TheConstants.{MOST_FIXES}
 use Rattle.redo_mark.specs.Logs.{Seen}
 use Rattle.trail.specs.Words.{cause_words}
 use Rattle.trail.specs.Dirt.{log_end}
@@ -22,7 +23,7 @@ use Rattle.desk.specs.declared.calls.Caller.{Caller}
 pub record MayFix {D : Type 0} (s : FramesSeen) (desk : State D) (by : Caller) (p : PageId) : Type 0 where
   pub turn : HasTurn s by
   pub own : IsOwn s desk p
-  pub few : IfSome s.opened (λ opened. length opened < 64)
+  pub few : IfSome s.opened (λ opened. length opened < MOST_FIXES)
 
 -- the page was read from the disk into the frame's image
 pub record IsRead (told : Option (List ℕ)) (old new : FramesSeen) (p : PageId) (f : ℕ) : Type 0 where

@@ -5,7 +5,7 @@ use Rattle.page_ids.specs.Layout.{IsPage}
 use Rattle.page_ids.specs.declared.ids.PageId.{PageId}
 use Rattle.page_ids.specs.declared.config.Config.{Config}
 use Rattle.page_ids.specs.declared.layout.BadPage.{BadPage}
-use Rattle.page_disk.specs.Disks.{DiskSeen, pages_in}
+use Rattle.page_disk.specs.Disks.{DiskSeen, pages_in, IsSameDisk}
 use Rattle.trail.specs.declared.event.Entry.{Entry}
 use Rattle.trail.specs.declared.event.Call.{Call}
 use Rattle.trail.specs.declared.event.Call.TheVariants as call
@@ -35,6 +35,18 @@ pub record IsAppended {D : Type 0} (old new : State D) (by : Caller) (k : Kind) 
   pub config : new.config ≡ old.config
   pub instance : new.instance ≡ old.instance
   pub history : new.history ≡ next_entry old by k ∷ old.history
+
+-- one entry was appended, and the disk was not used
+pub record Appends {D : Type 0} (old new : State D) (by : Caller) (k : Kind) : Type 0 where
+  pub entry : IsAppended old new by k
+  pub disk : new.disk ≡ old.disk
+
+-- only the disk was used, and just to read
+pub record OnlyReads {D : Type 0} (seen : D → DiskSeen) (old new : State D) : Type 0 where
+  pub config : new.config ≡ old.config
+  pub instance : new.instance ≡ old.instance
+  pub history : new.history ≡ old.history
+  pub disk : IsSameDisk (seen old.disk) (seen new.disk)
 
 -- what is seen of a frame
 abbrev pub row_in : List Row → ℕ → Row

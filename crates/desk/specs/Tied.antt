@@ -1,6 +1,6 @@
 -- How frames stand to a desk between its calls, and who may call.
 use Rattle.std.specs.Prelude.{ℕ, true, false, List, ◌≡◌, ◌<◌, ◌≤◌, ◌*◌, Option, None, Some, IfSome, IsSome, IsSomeAnd, length}
-use Rattle.page_ids.specs.Chunks.{instance_of}
+use Rattle.page_ids.specs.Instances.{instance_of}
 use Rattle.page_ids.specs.Content.{Content}
 use Rattle.page_ids.specs.Size.{page_bytes}
 use Rattle.page_ids.specs.declared.ids.PageId.{PageId}

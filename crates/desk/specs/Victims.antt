@@ -1,5 +1,6 @@
 -- How a frame is had for a page that is not resident.
 use Rattle.std.specs.Prelude.{ℕ, true, false, List, [], ◌∷◌, ◌≡◌, ◌≤◌, ◌<◌, ◌⊎◌, Option, None, Some, IfSome, IsSome, MatchOption, length, slice_set, ⊤}
+use Rattle.std.specs.Option.{is_some}
 use Rattle.page_ids.specs.Content.{Content}
 use Rattle.page_ids.specs.FrameWord.{fixes_of, AreRising}
 use Rattle.page_ids.specs.declared.frame_word.Word.{Word}
@@ -78,11 +79,11 @@ pub record IsFull {D : Type 0} (old : State D) (rows : List Row) (p : PageId) (s
   pub found : AreFoundOn rows seen
   pub rising : AreRising seen
 
--- the caller goes on with its turn, with the same open fixes
+-- the caller goes on with its turn, with the same open fixes; what was told still is
 pub record LeavesTurn (old new : FramesSeen) : Type 0 where
   pub turn : new.turn ≡ old.turn
   pub opened : new.opened ≡ old.opened
-  pub history : IsSome new.history → IsSome old.history
+  pub history : is_some new.history ≡ is_some old.history
   pub base : new.base ≡ old.base
 
 -- The content of a resident frame's image is told exactly where its fixes are: others can only then not change it.

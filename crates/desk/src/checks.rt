@@ -1,5 +1,6 @@
 //! The checkpoint: from where a redo would have to begin.
 ghost use Rattle.std.specs.Prelude.{◌≡◌, ◌<◌, ◌≤◌, ◌+◌, ◌^◌, length};
+ghost use Rattle.page_ids.specs.declared.limits.TheConstants.{CLOCK_BITS};
 ghost use Rattle.trail.specs.Dirt.{dirty, log_end};
 ghost use Rattle.desk.specs.Checks.{redo_start, Checks};
 ghost use Rattle.desk.specs.Steps.{IsAppended};
@@ -25,7 +26,7 @@ impl<D: PageDisk> Desk<D> {
 
     /// Appends a checkpoint to the desk's history alone.
     fn append_check(&mut self, by: Caller, lsn: u64)
-        requires places { self.old.state.config.first + length self.old.state.history + 1 < 2 ^ 48 }
+        requires places { self.old.state.config.first + length self.old.state.history + 1 < 2 ^ CLOCK_BITS }
         requires room { 0 < self.old.room }
         ensures appended { IsAppended self.old.state self.new.state by (Kind.Check lsn) }
         ensures disk { self.new.state.disk ≡ self.old.state.disk }
@@ -40,7 +41,7 @@ impl<D: PageDisk> Desk<D> {
     /// Appends the entry `checkpoint`. Neither the disk nor the log is used. Where frames tell the history, their holder appends the entry to
     /// it too: then they are tied to the desk as before.
     pub fn check_at<R: RedoDisk>(&mut self, redo: &Redo<R>, by: Caller) -> Result<u64, CallErr>
-        requires places { self.old.state.config.first + length self.old.state.history + 1 < 2 ^ 48 }
+        requires places { self.old.state.config.first + length self.old.state.history + 1 < 2 ^ CLOCK_BITS }
         requires known { log_end self.old.state.history ≤ redo.now.seen.end }
         ensures answers { Checks D.seen self.old.state self.new.state redo.now.seen by result }
         ensures disk { self.new.state.disk ≡ self.old.state.disk }

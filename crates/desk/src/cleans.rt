@@ -1,19 +1,20 @@
 //! The clean: dirty pages are written, the oldest first, and the disk is synced.
-ghost use Rattle.std.specs.Prelude.{List, ◌≡◌, ◌<◌, ◌≤◌, ◌+◌, ◌*◌, ◌^◌, ◌⊎◌, [], ◌∷◌, ℕ, None, Err, OnOk, OnErr, IfOk, IfErr, IfSome, IsSome, IsTrue, length, false, ⊤};
+ghost use Rattle.std.specs.Prelude.{List, ◌∷◌, ◌≡◌, ◌<◌, ◌≤◌, ◌+◌, ◌^◌, [], ℕ, None, Err, OnOk, IfErr, IfSome, IsSome, IsTrue, MatchResult, length, false, ◌⊎◌};
 ghost use Rattle.page_ids.specs.Size.{page_bytes};
-ghost use Rattle.page_disk.specs.Disks.{IsSameDisk, IsOtherwiseSame, Fades};
+ghost use Rattle.page_ids.specs.declared.limits.TheConstants.{CLOCK_BITS};
+ghost use Rattle.page_disk.specs.Disks.{IsSameDisk, IsOtherwiseSame};
 ghost use Rattle.trail.specs.History.{home, change};
 ghost use Rattle.trail.specs.Dirt.{dirty, log_end};
 ghost use Rattle.trail.specs.declared.event.Dirty.{Dirty};
-ghost use Rattle.redo_mark.specs.Logs.{IsLater, IsKept};
 ghost use Rattle.frame_words.specs.Conditions.{IsLatched, MayLay};
 ghost use Rattle.frame_words.specs.Rows.{laid_row, unlatched_row};
 ghost use Rattle.frame_words.specs.Seen.{row_at, with_row};
-ghost use Rattle.desk.specs.Base.{Opened};
-ghost use Rattle.desk.specs.Behind.{IsBehind};
-ghost use Rattle.desk.specs.Changes.{IsWriteBack, IsImageTold, IsWriteFault, LeavesDesk, IsForced, WritesBack, AreMarked, covered_to, IsStop, IsCleaned, IsCleanRefusal};
-ghost use Rattle.desk.specs.Logged.{IsLogged};
-ghost use Rattle.desk.specs.Tied.{AreTied, AreAlone, HasTurn};
+ghost use Rattle.desk.specs.Changes.{IsWriteFault, IsForced, LeavesDesk};
+ghost use Rattle.desk.specs.Claimed.{cause_of};
+ghost use Rattle.desk.specs.Cleans.{MayWriteBack, IsFirstDirty, LeavesRoom, StaysPut, WroteFirst, UnwroteFirst, NeedsNoLog, Flushes, LeavesClean, Cleans, clean_err_of};
+ghost use Rattle.desk.specs.Moments.{log_seen, moment_of, HasPlaces, IsReady, Keeps};
+ghost use Rattle.desk.specs.Tied.{AreAlone};
+ghost use Rattle.desk.specs.Writing.{Covers, Writes};
 
 use crate::calls::{Caller, CleanErr, Cleaned};
 use crate::desk::{Desk, take_image};
@@ -46,22 +47,12 @@ impl<D: PageDisk> Desk<D> {
         requires resident { IsSome (home self.old.state.history page) }
         requires image { length image.now.bytes ≡ page_bytes self.old.state.config.page }
         requires known { image.now.lsn ≤ redo.old.seen.end }
-        ensures ok { IfOk result (λ upto. (image.now.lsn ≤ upto) × (upto ≡ redo.new.seen.durable)) }
-        ensures mark { OnOk result (redo.new.seen.durable ≡ covered_to redo.old.seen.durable redo.old.seen.end image.now.lsn) }
-        ensures end { redo.new.seen.end ≡ redo.old.seen.end }
-        ensures written { OnOk result (IsImageTold page image.now (D.seen self.old.state.disk) (D.seen self.new.state.disk)) }
-        ensures failed { OnErr result (Fades ((D.seen self.old.state.disk).told page) ((D.seen self.new.state.disk).told page)) }
-        ensures others { IsOtherwiseSame page
-            (D.seen self.old.state.disk) (D.seen self.new.state.disk) }
-        ensures fault { IfErr result (λ e. IsWriteFault (D.seen self.old.state.disk).faults
-            (D.seen self.new.state.disk).faults redo.old.seen.faults redo.new.seen.faults e) }
-        ensures forced { IfErr result (λ e. IsForced self.old.state.disk self.new.state.disk (redo.old.seen.durable < image.now.lsn) e) }
-        ensures history { self.new.state.history ≡ self.old.state.history }
-        ensures room { self.new.room ≡ self.old.room }
-        ensures desk { LeavesDesk D.seen self.old.state self.new.state }
-        ensures later { IsLater redo.old.seen redo.new.seen }
-        ensures opening { redo.new.opening ≡ redo.old.opening }
-        ensures kept { IsKept redo.new.seen (R.seen redo.new.disk).told }
+        ensures answers { Writes D.seen self.old.state.disk self.new.state.disk
+            (log_seen R.seen redo.old) (log_seen R.seen redo.new) page image.now result }
+        ensures others { IsOtherwiseSame page (D.seen self.old.state.disk) (D.seen self.new.state.disk) }
+        ensures kept { self.new ≡ record self.old { state = record self.old.state { disk = self.new.state.disk } } }
+        ensures idle { image.now.lsn ≤ redo.old.seen.durable → redo.new ≡ redo.old }
+        ensures log { Covers (log_seen R.seen redo.old) (log_seen R.seen redo.new) }
     {
         write_page(&mut self.disk, redo, page, image, &mut self.buffer)
     }
@@ -75,35 +66,25 @@ impl<D: PageDisk> Desk<D> {
         by: Caller,
         oldest: Dirty,
     ) -> Result<(), WriteErr>
-        requires places { self.old.state.config.first + length self.old.state.history + 1 < 2 ^ 48 }
-        requires room { 0 < self.old.room }
-        requires tied { AreTied D.seen (F.seen frames.old) self.old.state }
+        requires entries { HasPlaces 1 self.old }
+        requires ready { IsReady D.seen (moment_of F.seen R.seen self.old frames.old redo.old) by }
         requires alone { AreAlone (F.seen frames.old) }
-        requires turn { HasTurn (F.seen frames.old) by }
-        requires oldest { (rest : List Dirty) × (dirty self.old.state.history ≡ oldest ∷ rest) }
-        requires resident { IsSome (home self.old.state.history oldest.page) }
-        requires known { (oldest.newest ≤ log_end self.old.state.history) × (log_end self.old.state.history ≤ redo.old.seen.end) }
-        ensures ok { OnOk result (IsWriteBack self.old.state.config.first by self.old.state.history self.new.state.history) }
-        ensures upto { OnOk result (AreMarked redo.old.seen.durable redo.old.seen.end redo.new.seen.durable
-            self.old.state.history self.new.state.history) }
-        ensures end { redo.new.seen.end ≡ redo.old.seen.end }
-        ensures err { OnErr result (self.new.state.history ≡ self.old.state.history) }
-        ensures fault { IfErr result (λ e. IsWriteFault (D.seen self.old.state.disk).faults
-            (D.seen self.new.state.disk).faults redo.old.seen.faults redo.new.seen.faults e) }
-        ensures forced { IfErr result (λ e. IsForced self.old.state.disk self.new.state.disk (redo.old.seen.durable < oldest.newest) e) }
-        ensures desk { LeavesDesk D.seen self.old.state self.new.state }
-        ensures room { self.old.room ≤ self.new.room + 1 }
-        ensures unused { OnErr result (self.new.room ≡ self.old.room) }
-        ensures rows { (F.seen frames.new).rows ≡ (F.seen frames.old).rows }
-        ensures tied { AreTied D.seen (F.seen frames.new) self.new.state }
-        ensures turn { HasTurn (F.seen frames.new) by }
-        ensures logged { IsLogged redo.old.seen self.old.state.history → IsLogged redo.new.seen self.new.state.history }
-        ensures known { log_end self.new.state.history ≤ redo.new.seen.end }
-        ensures later { IsLater redo.old.seen redo.new.seen }
-        ensures opening { redo.new.opening ≡ redo.old.opening }
-        ensures kept { IsKept redo.new.seen (R.seen redo.new.disk).told }
-        ensures behind { (o : Opened) → IsBehind D.seen o self.old.state (F.seen frames.old)
-            → IsBehind D.seen o self.new.state (F.seen frames.new) }
+        requires first { IsFirstDirty self.old.state.history oldest }
+        ensures keeps { Keeps D.seen 1
+            (moment_of F.seen R.seen self.old frames.old redo.old)
+            (moment_of F.seen R.seen self.new frames.new redo.new) }
+        ensures answers { MatchResult result
+            (λ _. WroteFirst
+            (moment_of F.seen R.seen self.old frames.old redo.old)
+            (moment_of F.seen R.seen self.new frames.new redo.new) by)
+            (λ e. UnwroteFirst D.seen
+            (moment_of F.seen R.seen self.old frames.old redo.old)
+            (moment_of F.seen R.seen self.new frames.new redo.new) oldest e) }
+        ensures left { StaysPut D.seen
+            (moment_of F.seen R.seen self.old frames.old redo.old)
+            (moment_of F.seen R.seen self.new frames.new redo.new) by }
+        ensures room { LeavesRoom self.old self.new }
+        ensures idle { oldest.newest ≤ redo.old.seen.durable → redo.new ≡ redo.old }
     {
         let Dirty { page, newest, .. } = oldest;
         let frame = self.frame_of(page);
@@ -147,37 +128,20 @@ impl<D: PageDisk> Desk<D> {
         by: Caller,
         most: u32,
     ) -> Result<u32, WriteErr>
-        requires places { self.old.state.config.first + length self.old.state.history
-            + length (dirty self.old.state.history) + 1 < 2 ^ 48 }
-        requires room { (n : ℕ) → n ≤ most → n ≤ length (dirty self.old.state.history) → n ≤ self.old.room }
-        requires tied { AreTied D.seen (F.seen frames.old) self.old.state }
+        requires entries { MayWriteBack most self.old }
+        requires ready { IsReady D.seen (moment_of F.seen R.seen self.old frames.old redo.old) by }
         requires alone { AreAlone (F.seen frames.old) }
-        requires turn { HasTurn (F.seen frames.old) by }
-        requires known { log_end self.old.state.history ≤ redo.old.seen.end }
-        ensures ok { IfOk result (λ n. WritesBack self.old.state.config.first by n
-            self.old.state.history self.new.state.history
-            × n ≤ most × n ≤ length (dirty self.old.state.history) × ((n ≡ most) ⊎ (dirty self.new.state.history ≡ []))
-            × self.old.room ≤ self.new.room + n) }
-        ensures idle { IfOk result (λ n. n ≡ 0 → (self.new.state.disk ≡ self.old.state.disk) × (redo.new ≡ redo.old)) }
-        ensures err { IfErr result (λ e. (n : ℕ) × WritesBack self.old.state.config.first by n
-            self.old.state.history self.new.state.history
-            × n < most × n < length (dirty self.old.state.history) × self.old.room ≤ self.new.room + n
-            × (n ≡ 0 → IsForced self.old.state.disk self.new.state.disk ⊤ e)) }
-        ensures upto { (mark : ℕ) × AreMarked redo.old.seen.durable redo.old.seen.end mark
-            self.old.state.history self.new.state.history }
-        ensures fault { IfErr result (λ e. IsWriteFault (D.seen self.old.state.disk).faults
-            (D.seen self.new.state.disk).faults redo.old.seen.faults redo.new.seen.faults e) }
-        ensures desk { LeavesDesk D.seen self.old.state self.new.state }
-        ensures rows { (F.seen frames.new).rows ≡ (F.seen frames.old).rows }
-        ensures tied { AreTied D.seen (F.seen frames.new) self.new.state }
-        ensures turn { HasTurn (F.seen frames.new) by }
-        ensures logged { IsLogged redo.old.seen self.old.state.history → IsLogged redo.new.seen self.new.state.history }
-        ensures known { log_end self.new.state.history ≤ redo.new.seen.end }
-        ensures later { IsLater redo.old.seen redo.new.seen }
-        ensures opening { redo.new.opening ≡ redo.old.opening }
-        ensures kept { IsKept redo.old.seen (R.seen redo.old.disk).told → IsKept redo.new.seen (R.seen redo.new.disk).told }
-        ensures behind { (o : Opened) → IsBehind D.seen o self.old.state (F.seen frames.old)
-            → IsBehind D.seen o self.new.state (F.seen frames.new) }
+        ensures keeps { Keeps D.seen (length (dirty self.old.state.history))
+            (moment_of F.seen R.seen self.old frames.old redo.old)
+            (moment_of F.seen R.seen self.new frames.new redo.new) }
+        ensures answers { Flushes D.seen
+            (moment_of F.seen R.seen self.old frames.old redo.old)
+            (moment_of F.seen R.seen self.new frames.new redo.new) by most false result }
+        ensures left { StaysPut D.seen
+            (moment_of F.seen R.seen self.old frames.old redo.old)
+            (moment_of F.seen R.seen self.new frames.new redo.new) by }
+        ensures room { LeavesRoom self.old self.new }
+        ensures idle { NeedsNoLog (moment_of F.seen R.seen self.old frames.old redo.old) most false → redo.new ≡ redo.old }
     {
         for written in 0..most {
             let Some(oldest) = self.first_dirty() else {
@@ -215,39 +179,20 @@ impl<D: PageDisk> Desk<D> {
         most: u32,
         sync: bool,
     ) -> Result<u32, WriteErr>
-        requires places { self.old.state.config.first + length self.old.state.history
-            + length (dirty self.old.state.history) + 1 < 2 ^ 48 }
-        requires room { (n : ℕ) → n ≤ most → n ≤ length (dirty self.old.state.history) → n ≤ self.old.room }
-        requires tied { AreTied D.seen (F.seen frames.old) self.old.state }
+        requires entries { MayWriteBack most self.old }
+        requires ready { IsReady D.seen (moment_of F.seen R.seen self.old frames.old redo.old) by }
         requires alone { AreAlone (F.seen frames.old) }
-        requires turn { HasTurn (F.seen frames.old) by }
-        requires known { log_end self.old.state.history ≤ redo.old.seen.end }
-        ensures ok { IfOk result (λ n. WritesBack self.old.state.config.first by n
-            self.old.state.history self.new.state.history
-            × n ≤ most × n ≤ length (dirty self.old.state.history) × ((n ≡ most) ⊎ (dirty self.new.state.history ≡ []))
-            × self.old.room ≤ self.new.room + n) }
-        ensures idle { sync ≡ false → IfOk result (λ n. n ≡ 0 → (self.new.state.disk ≡ self.old.state.disk) × (redo.new ≡ redo.old)) }
-        ensures err { IfErr result (λ e. (n : ℕ) × WritesBack self.old.state.config.first by n
-            self.old.state.history self.new.state.history
-            × n ≤ most × n ≤ length (dirty self.old.state.history) × self.old.room ≤ self.new.room + n
-            × IsStop n most sync (dirty self.new.state.history) × (n ≡ 0 → IsForced self.old.state.disk self.new.state.disk ⊤ e)) }
-        ensures upto { (mark : ℕ) × AreMarked redo.old.seen.durable redo.old.seen.end mark
-            self.old.state.history self.new.state.history }
-        ensures fault { IfErr result (λ e. IsWriteFault (D.seen self.old.state.disk).faults
-            (D.seen self.new.state.disk).faults redo.old.seen.faults redo.new.seen.faults e) }
-        ensures desk { LeavesDesk D.seen self.old.state self.new.state }
-        ensures rows { (F.seen frames.new).rows ≡ (F.seen frames.old).rows }
-        ensures tied { AreTied D.seen (F.seen frames.new) self.new.state }
-        ensures turn { HasTurn (F.seen frames.new) by }
-        ensures logged { IsLogged redo.old.seen self.old.state.history → IsLogged redo.new.seen self.new.state.history }
-        ensures known { log_end self.new.state.history ≤ redo.new.seen.end }
-        ensures later { IsLater redo.old.seen redo.new.seen }
-        ensures opening { redo.new.opening ≡ redo.old.opening }
-        ensures kept { IsKept redo.old.seen (R.seen redo.old.disk).told → IsKept redo.new.seen (R.seen redo.new.disk).told }
-        ensures behind { (o : Opened) → IsBehind D.seen o self.old.state (F.seen frames.old)
-            → IsBehind D.seen o self.new.state (F.seen frames.new) }
-        ensures synced { IsTrue sync → OnOk result (IsTrue (D.seen self.new.state.disk).synced) }
-        ensures whole { IsTrue sync → OnOk result (redo.new.seen.durable ≡ redo.new.seen.end) }
+        ensures keeps { Keeps D.seen (length (dirty self.old.state.history))
+            (moment_of F.seen R.seen self.old frames.old redo.old)
+            (moment_of F.seen R.seen self.new frames.new redo.new) }
+        ensures answers { Flushes D.seen
+            (moment_of F.seen R.seen self.old frames.old redo.old)
+            (moment_of F.seen R.seen self.new frames.new redo.new) by most sync result }
+        ensures left { StaysPut D.seen
+            (moment_of F.seen R.seen self.old frames.old redo.old)
+            (moment_of F.seen R.seen self.new frames.new redo.new) by }
+        ensures room { LeavesRoom self.old self.new }
+        ensures idle { NeedsNoLog (moment_of F.seen R.seen self.old frames.old redo.old) most sync → redo.new ≡ redo.old }
     {
         let written = match self.write_back_all(frames, redo, by, most) {
             Ok(written) => written,
@@ -274,6 +219,47 @@ impl<D: PageDisk> Desk<D> {
         self.lists.dirty_pages()
     }
 
+    /// Writes dirty pages, where there is room for the entries.
+    fn clean_reserved<F: Frames, R: RedoDisk>(
+        &mut self,
+        frames: &mut F,
+        redo: &mut Redo<R>,
+        by: Caller,
+        bound: u32,
+        sync: bool,
+    ) -> Result<Cleaned, CleanErr>
+        requires entries { MayWriteBack bound self.old }
+        requires ready { IsReady D.seen (moment_of F.seen R.seen self.old frames.old redo.old) by }
+        requires alone { AreAlone (F.seen frames.old) }
+        ensures keeps { Keeps D.seen (length (dirty self.old.state.history) + 1)
+            (moment_of F.seen R.seen self.old frames.old redo.old)
+            (moment_of F.seen R.seen self.new frames.new redo.new) }
+        ensures answers { Cleans D.seen
+            (moment_of F.seen R.seen self.old frames.old redo.old)
+            (moment_of F.seen R.seen self.new frames.new redo.new) by bound sync result }
+        ensures left { LeavesClean D.seen
+            (moment_of F.seen R.seen self.old frames.old redo.old)
+            (moment_of F.seen R.seen self.new frames.new redo.new) bound sync result }
+        ensures idle { (result ≡ Err CleanErr.OutOfMemory) ⊎ NeedsNoLog (moment_of F.seen R.seen self.old frames.old redo.old) bound sync
+            → redo.new ≡ redo.old }
+    {
+        let alloc = self.lists.allocator();
+        match self.flush(frames, redo, by, bound, sync) {
+            Ok(written) => {
+                let skipped = Words::of(Vec::new(alloc));
+                self.append(frames, by, Kind::Clean { written, skipped });
+                let skipped = Words::of(Vec::new(alloc));
+                Ok(Cleaned { written, skipped })
+            }
+            Err(error) => {
+                let (cause, refusal) = clean_causes_of(error);
+                let call = Call::Clean { bound };
+                self.append(frames, by, Kind::Refused { call, cause });
+                Err(refusal)
+            }
+        }
+    }
+
     /// Writes dirty pages, the oldest first, at most `bound` (buf0flu's flush batch); with `sync` the whole log is then made durable, and the
     /// disk synced (as at a shutdown).
     ///
@@ -289,64 +275,28 @@ impl<D: PageDisk> Desk<D> {
         sync: bool,
     ) -> Result<Cleaned, CleanErr>
         requires places { self.old.state.config.first + length self.old.state.history
-            + length (dirty self.old.state.history) + 1 < 2 ^ 48 }
-        requires tied { AreTied D.seen (F.seen frames.old) self.old.state }
+            + length (dirty self.old.state.history) + 1 < 2 ^ CLOCK_BITS }
+        requires ready { IsReady D.seen (moment_of F.seen R.seen self.old frames.old redo.old) by }
         requires alone { AreAlone (F.seen frames.old) }
-        requires turn { HasTurn (F.seen frames.old) by }
-        requires known { log_end self.old.state.history ≤ redo.old.seen.end }
-        ensures ok { IfOk result (λ c. (c.skipped ≡ []) × IsCleaned self.old.state self.new.state by bound c.written) }
-        ensures refused { IfErr result (λ e. IsCleanRefusal self.old.state self.new.state by bound sync
-            (D.seen self.old.state.disk).faults (D.seen self.new.state.disk).faults redo.old.seen.faults redo.new.seen.faults e) }
-        ensures upto { (mark : ℕ) × AreMarked redo.old.seen.durable redo.old.seen.end mark
-            self.old.state.history self.new.state.history }
-        ensures unmoved { (F.seen frames.new).rows ≡ (F.seen frames.old).rows }
-        ensures unlogged { result ≡ Err CleanErr.OutOfMemory → redo.new ≡ redo.old }
-        ensures unused { sync ≡ false → (bound ≡ 0) ⊎ (dirty self.old.state.history ≡ [])
-            → (self.new.state.disk ≡ self.old.state.disk) × (redo.new ≡ redo.old) }
-        ensures tied { AreTied D.seen (F.seen frames.new) self.new.state }
-        ensures logged { IsLogged redo.old.seen self.old.state.history → IsLogged redo.new.seen self.new.state.history }
-        ensures known { log_end self.new.state.history ≤ redo.new.seen.end }
-        ensures later { IsLater redo.old.seen redo.new.seen }
-        ensures opening { redo.new.opening ≡ redo.old.opening }
-        ensures kept { IsKept redo.old.seen (R.seen redo.old.disk).told → IsKept redo.new.seen (R.seen redo.new.disk).told }
-        ensures sizes { ((D.seen self.new.state.disk).size ≡ (D.seen self.old.state.disk).size)
-            × ((space : ℕ) → (D.seen self.new.state.disk).spaces space ≡ (D.seen self.old.state.disk).spaces space) }
-        ensures telling { (D.seen self.new.state.disk).tells ≡ (D.seen self.old.state.disk).tells }
-        ensures count { (length self.new.state.history
-            ≤ length self.old.state.history + length (dirty self.old.state.history) + 1)
+        ensures keeps { Keeps D.seen (length (dirty self.old.state.history) + 1)
+            (moment_of F.seen R.seen self.old frames.old redo.old)
+            (moment_of F.seen R.seen self.new frames.new redo.new) }
+        ensures answers { Cleans D.seen
+            (moment_of F.seen R.seen self.old frames.old redo.old)
+            (moment_of F.seen R.seen self.new frames.new redo.new) by bound sync result }
+        ensures left { LeavesClean D.seen
+            (moment_of F.seen R.seen self.old frames.old redo.old)
+            (moment_of F.seen R.seen self.new frames.new redo.new) bound sync result }
+        ensures few { (length (dirty self.old.state.history) ≤ self.old.state.config.frames)
             × (length (dirty self.old.state.history) ≤ length self.old.state.history) }
-        ensures few { length (dirty self.old.state.history) ≤ self.old.state.config.frames }
-        ensures counted { (D.seen self.old.state.disk).faults ≤ (D.seen self.new.state.disk).faults }
-        ensures behind { (o : Opened) → IsBehind D.seen o self.old.state (F.seen frames.old)
-            → IsBehind D.seen o self.new.state (F.seen frames.new) }
-        ensures synced { IsTrue sync → OnOk result (IsTrue (D.seen self.new.state.disk).synced) }
-        ensures whole { IsTrue sync → OnOk result (redo.new.seen.durable ≡ redo.new.seen.end) }
+        ensures idle { (result ≡ Err CleanErr.OutOfMemory) ⊎ NeedsNoLog (moment_of F.seen R.seen self.old frames.old redo.old) bound sync
+            → redo.new ≡ redo.old }
     {
-        let alloc = self.lists.allocator();
         let most = self.dirty_pages().min(bound as usize);
         if self.room_for(most + 1).is_err() {
             return Err(CleanErr::OutOfMemory);
         }
-        match self.flush(frames, redo, by, bound, sync) {
-            Ok(written) => {
-                let skipped = Words::of(Vec::new(alloc));
-                self.append(frames, by, Kind::Clean { written, skipped });
-                let skipped = Words::of(Vec::new(alloc));
-                Ok(Cleaned { written, skipped })
-            }
-            Err(WriteErr::RedoFault { before, after }) => {
-                let call = Call::Clean { bound };
-                let cause = Cause::RedoFault { before, after };
-                self.append(frames, by, Kind::Refused { call, cause });
-                Err(CleanErr::RedoFault { before, after })
-            }
-            Err(WriteErr::DiskFault { before, after }) => {
-                let call = Call::Clean { bound };
-                let cause = Cause::DiskFault { before, after };
-                self.append(frames, by, Kind::Refused { call, cause });
-                Err(CleanErr::DiskFault { before, after })
-            }
-        }
+        self.clean_reserved(frames, redo, by, bound, sync)
     }
 }
 
@@ -360,4 +310,20 @@ fn give_image<F: Frames>(frames: &mut F, frame: u32, image: Image)
 {
     frames.lay(frame, image);
     frames.unlatch(frame);
+}
+
+/// What is told of a clean that a device stopped, in the history and in the answer.
+fn clean_causes_of(error: WriteErr) -> (Cause, CleanErr)
+    ensures { (result.0 ≡ cause_of error) × (result.1 ≡ clean_err_of error) }
+{
+    match error {
+        WriteErr::RedoFault { before, after } => (
+            Cause::RedoFault { before, after },
+            CleanErr::RedoFault { before, after },
+        ),
+        WriteErr::DiskFault { before, after } => (
+            Cause::DiskFault { before, after },
+            CleanErr::DiskFault { before, after },
+        ),
+    }
 }

@@ -1,10 +1,8 @@
 //! The create: a page is made new and blank in a frame that was had for it, logged first, and a fix of it is granted.
 ghost use Rattle.std.specs.Prelude.{◌≡◌, ◌<◌, ◌≤◌, ◌+◌, ◌^◌, ℕ, Some, None, OnOk, IfOk, length};
 ghost use Rattle.page_ids.specs.Size.{page_bytes};
-ghost use Rattle.page_disk.specs.Disks.{IsInside};
+ghost use Rattle.page_ids.specs.declared.limits.TheConstants.{CLOCK_BITS, MOST_FIXES};
 ghost use Rattle.redo_mark.specs.Records.{head_of, record_of};
-ghost use Rattle.trail.specs.Book.{book, frame_in_turn};
-ghost use Rattle.trail.specs.Dirt.{log_end};
 ghost use Rattle.trail.specs.History.{home};
 ghost use Rattle.trail.specs.Trails.{mark};
 ghost use Rattle.frame_words.specs.Rows.{laid_row};
@@ -12,11 +10,10 @@ ghost use Rattle.frame_words.specs.Seen.{KeepsRoom, row_at, with_row};
 ghost use Rattle.desk.specs.Answers.{IsAsked, MayTake, IsNext, IsCreateSpan, Creates};
 ghost use Rattle.desk.specs.Creating.{IsMade, create_err_of, blank_at};
 ghost use Rattle.instance_lists.specs.Ledger.{IsVacant};
-ghost use Rattle.desk.specs.Loads.{MayFix};
 ghost use Rattle.desk.specs.Logged.{create_change};
 ghost use Rattle.desk.specs.Making.{shown};
-ghost use Rattle.desk.specs.Moments.{LogSeen, moment, moment_of, HasPlaces, IsAtRest, IsReady, Keeps};
-ghost use Rattle.desk.specs.Steps.{IsAppended, next_entry};
+ghost use Rattle.desk.specs.Moments.{LogSeen, moment, moment_of, HasPlaces, IsUnderWay, IsReady, Keeps};
+ghost use Rattle.desk.specs.Steps.{Appends, next_entry};
 ghost use Rattle.desk.specs.Tied.{AreTied};
 ghost use Rattle.redo_mark.specs.Logs.{Holds};
 
@@ -24,7 +21,7 @@ use crate::calls::{Caller, CreateErr, FrameErr, Granted};
 use crate::desk::Desk;
 use frame_words::Frames;
 use page_disk::PageDisk;
-use page_ids::{Bytes, OutOfMemory, PageId};
+use page_ids::{Bytes, MOST_FIXES, OutOfMemory, PageId};
 use redo_mark::{Change, ChangeKind, Draft, LogSpent, Redo, RedoDisk, Span};
 use std::alloc::{AllocError, Global};
 use trail::{Call, Cause, Kind};
@@ -56,24 +53,18 @@ impl<D: PageDisk> Desk<D> {
         now: u64,
         span: Span,
     ) -> u64
-        requires places { self.old.state.config.first + length self.old.state.history + 1 < 2 ^ 48 }
-        requires room { 0 < self.old.room }
-        requires inside { IsInside (D.seen self.old.state.disk).spaces page }
-        requires below { frame < self.old.state.config.frames }
-        requires vacant { IsVacant self.old.state.history frame }
-        requires absent { home self.old.state.history page ≡ None }
-        requires next { frame_in_turn (book self.old.state.config self.old.state.history) ≡ Some frame }
+        requires entries { HasPlaces 1 self.old }
         requires tied { AreTied D.seen (F.seen frames.old) self.old.state }
-        requires caller { MayFix (F.seen frames.old) self.old.state by page }
-        requires span { (log_end self.old.state.history ≤ span.start) × (span.end ≡ span.start + 21) }
+        requires asked { MayTake D.seen (F.seen frames.old) self.old.state by page }
+        requires next { IsNext self.old.state frame }
+        requires span { IsCreateSpan self.old.state span }
         requires image { (row_at (F.seen frames.old) frame).image ≡ Some (Some (blank_at (page_bytes self.old.state.config.page) span.end)) }
         ensures place { result ≡ mark self.old.state.config.first self.old.state.history + 1 }
-        ensures appended { IsAppended self.old.state self.new.state by (Kind.Create page frame span.start span.end now) }
+        ensures appends { Appends self.old.state self.new.state by (Kind.Create page frame span.start span.end now) }
         ensures seen { F.seen frames.new ≡ shown (F.seen frames.old)
             (next_entry self.old.state by (Kind.Create page frame span.start span.end now)) frame page result }
         ensures room { self.old.room ≤ self.new.room + 1 }
         ensures fixes { KeepsRoom (F.room frames.old) (F.room frames.new) }
-        ensures disk { self.new.state.disk ≡ self.old.state.disk }
     {
         let place = self.next_place();
         self.append(
@@ -102,7 +93,7 @@ impl<D: PageDisk> Desk<D> {
         span: Span,
     ) -> Granted
         requires entries { HasPlaces 1 self.old }
-        requires rest { IsAtRest D.seen self.old.state (F.seen frames.old) }
+        requires rest { IsUnderWay D.seen by self.old.state (F.seen frames.old) }
         requires asked { MayTake D.seen (F.seen frames.old) self.old.state by page }
         requires next { IsNext self.old.state frame }
         requires span { IsCreateSpan self.old.state span }
@@ -146,7 +137,7 @@ impl<D: PageDisk> Desk<D> {
         ensures keeps { Keeps D.seen 3
             (moment_of F.seen R.seen self.old frames.old redo.old)
             (moment_of F.seen R.seen self.new frames.new redo.new) }
-        ensures answers { (held : ℕ) → held < 64 → Creates D.seen
+        ensures answers { (held : ℕ) → held < MOST_FIXES → Creates D.seen
             (moment_of F.seen R.seen self.old frames.old redo.old)
             (moment_of F.seen R.seen self.new frames.new redo.new) by held page now result }
     {
@@ -182,7 +173,7 @@ impl<D: PageDisk> Desk<D> {
         requires entries { HasPlaces 3 self.old }
         requires ready { IsReady D.seen (moment_of F.seen R.seen self.old frames.old redo.old) by }
         requires asked { IsAsked (F.seen frames.old) self.old.state held page }
-        requires fixes { held < 64 → (f : ℕ) → f < length (F.seen frames.old).rows → 0 < F.room frames.old f }
+        requires fixes { held < MOST_FIXES → (f : ℕ) → f < length (F.seen frames.old).rows → 0 < F.room frames.old f }
         ensures keeps { Keeps D.seen 3
             (moment_of F.seen R.seen self.old frames.old redo.old)
             (moment_of F.seen R.seen self.new frames.new redo.new) }
@@ -196,7 +187,7 @@ impl<D: PageDisk> Desk<D> {
             self.refuse(frames, by, page, call, Cause::NoSuchPage { pages });
             return Err(CreateErr::NoSuchPage { pages });
         }
-        if held >= 64 {
+        if held >= MOST_FIXES {
             let call = Call::Create { page, now };
             self.refuse(frames, by, page, call, Cause::HoldFull { held });
             return Err(CreateErr::HoldFull { held });
@@ -226,10 +217,10 @@ impl<D: PageDisk> Desk<D> {
         page: PageId,
         now: u64,
     ) -> Result<Granted, CreateErr>
-        requires places { self.old.state.config.first + length self.old.state.history + 3 < 2 ^ 48 }
+        requires places { self.old.state.config.first + length self.old.state.history + 3 < 2 ^ CLOCK_BITS }
         requires ready { IsReady D.seen (moment_of F.seen R.seen self.old frames.old redo.old) by }
         requires asked { IsAsked (F.seen frames.old) self.old.state held page }
-        requires fixes { held < 64 → (f : ℕ) → f < length (F.seen frames.old).rows → 0 < F.room frames.old f }
+        requires fixes { held < MOST_FIXES → (f : ℕ) → f < length (F.seen frames.old).rows → 0 < F.room frames.old f }
         ensures keeps { Keeps D.seen 3
             (moment_of F.seen R.seen self.old frames.old redo.old)
             (moment_of F.seen R.seen self.new frames.new redo.new) }

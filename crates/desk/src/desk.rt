@@ -3,6 +3,7 @@ ghost use Rattle.std.specs.Prelude.{List, ◌≡◌, ◌<◌, ◌≤◌, ◌+◌
 ghost use Rattle.page_ids.specs.Size.{page_bytes};
 ghost use Rattle.page_ids.specs.Layout.{IsPage};
 ghost use Rattle.page_ids.specs.declared.ids.PageId.{PageId};
+ghost use Rattle.page_ids.specs.declared.limits.TheConstants.{CLOCK_BITS};
 ghost use Rattle.page_disk.specs.Disks.{IsInside};
 ghost use Rattle.trail.specs.Trails.{mark};
 ghost use Rattle.trail.specs.History.{home, value};
@@ -104,7 +105,7 @@ impl<D: PageDisk> Desk<D> {
 
     /// Appends an entry to the desk's history, and to that which the frames tell.
     pub(crate) fn append<F: Frames>(&mut self, frames: &mut F, by: Caller, kind: Kind)
-        requires places { self.old.state.config.first + length self.old.state.history + 1 < 2 ^ 48 }
+        requires places { self.old.state.config.first + length self.old.state.history + 1 < 2 ^ CLOCK_BITS }
         requires room { 0 < self.old.room }
         requires may { MayCome (ledger_of self.old) kind }
         requires frames { MayAppend (F.seen frames.old) (next_entry self.old.state by kind) }

@@ -1,24 +1,22 @@
 //! The fix: a page that is not resident is read into a frame, and a fix is granted or refused.
-ghost use Rattle.std.specs.Prelude.{◌≡◌, ◌<◌, ◌≤◌, ◌+◌, ◌^◌, ℕ, Some, None, Err, OnOk, OnErr, IfErr, IfSome, length, slice_set, false};
+ghost use Rattle.std.specs.Prelude.{◌≡◌, ◌<◌, ◌≤◌, ◌+◌, ◌^◌, ℕ, Some, None, Err, OnOk, OnErr, IfErr, IfSome, length, false};
 ghost use Rattle.page_ids.specs.Content.{Content};
-ghost use Rattle.page_ids.specs.declared.layout.BadPage.{BadPage};
-ghost use Rattle.page_disk.specs.Disks.{pages_in, IsInside, IsSameDisk};
+ghost use Rattle.page_ids.specs.declared.limits.TheConstants.{CLOCK_BITS, MOST_FIXES};
+ghost use Rattle.page_disk.specs.Disks.{pages_in, IsInside};
 ghost use Rattle.trail.specs.Trails.{mark};
 ghost use Rattle.trail.specs.History.{home};
-ghost use Rattle.trail.specs.Book.{book, frame_in_turn};
 ghost use Rattle.trail.specs.Dirt.{is_dirty};
-ghost use Rattle.frame_words.specs.Rows.{published_row};
-ghost use Rattle.frame_words.specs.Seen.{row_at, KeepsRoom};
+ghost use Rattle.frame_words.specs.Seen.{KeepsRoom};
 ghost use Rattle.desk.specs.Answers.{IsAsked, IsRefusable, Refuses, MayTake, IsNext, Loads, Fixes};
 ghost use Rattle.desk.specs.Base.{Opened};
 ghost use Rattle.desk.specs.Behind.{IsBehind};
 ghost use Rattle.desk.specs.Fixing.{fix_err_of};
-ghost use Rattle.instance_lists.specs.Ledger.{IsVacant};
 ghost use Rattle.desk.specs.Loads.{MayFix, IsRead, IsInImage, IsOneMore};
 ghost use Rattle.desk.specs.Logged.{IsLoggedCause};
-ghost use Rattle.desk.specs.Moments.{LogSeen, moment, moment_of, HasPlaces, IsAtRest, IsReady, Keeps};
+ghost use Rattle.desk.specs.Making.{shown};
+ghost use Rattle.desk.specs.Moments.{LogSeen, moment, moment_of, HasPlaces, EmptiesHand, IsAtRest, IsUnderWay, IsReady, Keeps};
 ghost use Rattle.desk.specs.Reads.{IsReadRefusal};
-ghost use Rattle.desk.specs.Steps.{IsAppended, IsHit, IsLoadRefusal};
+ghost use Rattle.desk.specs.Steps.{Appends, OnlyReads, next_entry, IsHit, IsLoadRefusal};
 ghost use Rattle.desk.specs.Tied.{AreTied};
 
 use crate::calls::{Caller, FixErr, FrameErr, Granted};
@@ -26,7 +24,7 @@ use crate::desk::Desk;
 use crate::parts::{ReadErr, read_page};
 use frame_words::Frames;
 use page_disk::PageDisk;
-use page_ids::{OutOfMemory, PageId};
+use page_ids::{MOST_FIXES, OutOfMemory, PageId};
 use redo_mark::{Redo, RedoDisk};
 use std::alloc::AllocError;
 use trail::{Call, Cause, Kind};
@@ -64,20 +62,16 @@ impl<D: PageDisk> Desk<D> {
         frame: u32,
     ) -> Result<(), ReadErr>
         requires inside { IsInside (D.seen self.old.state.disk).spaces page }
-        requires below { frame < self.old.state.config.frames }
-        requires vacant { IsVacant self.old.state.history frame }
+        requires next { IsNext self.old.state frame }
         requires tied { AreTied D.seen (F.seen frames.old) self.old.state }
         ensures ok { OnOk result (IsRead ((D.seen self.old.state.disk).told page) (F.seen frames.old) (F.seen frames.new) page frame) }
         ensures err { OnErr result (F.seen frames.new ≡ F.seen frames.old) }
         ensures refused { IfErr result (λ e. IsReadRefusal ((D.seen self.old.state.disk).told page)
             (D.seen self.old.state.disk).faults (D.seen self.new.state.disk).faults page e) }
-        ensures config { self.new.state.config ≡ self.old.state.config }
-        ensures instance { self.new.state.instance ≡ self.old.state.instance }
-        ensures history { self.new.state.history ≡ self.old.state.history }
+        ensures reads { OnlyReads D.seen self.old.state self.new.state }
         ensures room { self.new.room ≡ self.old.room }
         ensures fixes { KeepsRoom (F.room frames.old) (F.room frames.new) }
         ensures tied { AreTied D.seen (F.seen frames.new) self.new.state }
-        ensures disk { IsSameDisk (D.seen self.old.state.disk) (D.seen self.new.state.disk) }
         ensures behind { (o : Opened) → IsBehind D.seen o self.old.state (F.seen frames.old)
             → IsBehind D.seen o self.new.state (F.seen frames.new) }
     {
@@ -89,26 +83,18 @@ impl<D: PageDisk> Desk<D> {
 
     /// Makes the next frame the home of a page that was read into it.
     fn take_in<F: Frames>(&mut self, frames: &mut F, by: Caller, page: PageId, frame: u32)
-        requires places { self.old.state.config.first + length self.old.state.history + 1 < 2 ^ 48 }
-        requires room { 0 < self.old.room }
-        requires inside { IsInside (D.seen self.old.state.disk).spaces page }
-        requires below { frame < self.old.state.config.frames }
-        requires vacant { IsVacant self.old.state.history frame }
-        requires absent { home self.old.state.history page ≡ None }
-        requires clean { is_dirty self.old.state.history page ≡ false }
-        requires next { frame_in_turn (book self.old.state.config self.old.state.history) ≡ Some frame }
+        requires entries { HasPlaces 1 self.old }
         requires tied { AreTied D.seen (F.seen frames.old) self.old.state }
-        requires caller { MayFix (F.seen frames.old) self.old.state by page }
+        requires asked { MayTake D.seen (F.seen frames.old) self.old.state by page }
+        requires next { IsNext self.old.state frame }
         requires image { (content : Content) × IsInImage ((D.seen self.old.state.disk).told page) (F.seen frames.old) page frame content }
-        ensures appended { IsAppended self.old.state self.new.state by (Kind.Load page frame) }
-        ensures rows { (F.seen frames.new).rows ≡ slice_set (F.seen frames.old).rows frame
-            (published_row (row_at (F.seen frames.old) frame) page (mark self.old.state.config.first self.old.state.history + 1)) }
-        ensures base { (F.seen frames.new).base ≡ (F.seen frames.old).base }
+        ensures appends { Appends self.old.state self.new.state by (Kind.Load page frame) }
+        ensures seen { F.seen frames.new ≡ shown (F.seen frames.old) (next_entry self.old.state by (Kind.Load page frame)) frame page
+            (mark self.old.state.config.first self.old.state.history + 1) }
         ensures room { self.old.room ≤ self.new.room + 1 }
         ensures fixes { KeepsRoom (F.room frames.old) (F.room frames.new) }
         ensures caller { MayFix (F.seen frames.new) self.new.state by page }
         ensures tied { AreTied D.seen (F.seen frames.new) self.new.state }
-        ensures disk { self.new.state.disk ≡ self.old.state.disk }
         ensures behind { (o : Opened) → IfSome (F.seen frames.old).base (λ base. base ≡ o.base)
             → IsBehind D.seen o self.old.state (F.seen frames.old)
             → IsBehind D.seen o self.new.state (F.seen frames.new) }
@@ -128,7 +114,7 @@ impl<D: PageDisk> Desk<D> {
         now: u64,
     ) -> Result<(), FixErr>
         requires entries { HasPlaces 1 self.old }
-        requires rest { IsAtRest D.seen self.old.state (F.seen frames.old) }
+        requires rest { IsUnderWay D.seen by self.old.state (F.seen frames.old) }
         requires asked { MayTake D.seen (F.seen frames.old) self.old.state by page }
         requires next { IsNext self.old.state frame }
         ensures keeps { (l : LogSeen) → Keeps D.seen 1 (moment self.old.state (F.seen frames.old) l) (moment self.new.state (F.seen frames.new) l) }
@@ -167,7 +153,8 @@ impl<D: PageDisk> Desk<D> {
         cause: Cause,
     )
         requires entries { HasPlaces 1 self.old }
-        requires rest { IsAtRest D.seen self.old.state (F.seen frames.old) }
+        requires rest { IsUnderWay D.seen by self.old.state (F.seen frames.old) }
+        requires hands { EmptiesHand self.old.state call cause }
         requires asked { IsRefusable (F.seen frames.old) self.old.state by page call cause }
         ensures keeps { (l : LogSeen) → IsLoggedCause l.seen cause
             → Keeps D.seen 1 (moment self.old.state (F.seen frames.old) l) (moment self.new.state (F.seen frames.new) l) }
@@ -230,7 +217,7 @@ impl<D: PageDisk> Desk<D> {
         ensures keeps { Keeps D.seen 4
             (moment_of F.seen R.seen self.old frames.old redo.old)
             (moment_of F.seen R.seen self.new frames.new redo.new) }
-        ensures answers { (held : ℕ) → held < 64 → Fixes D.seen
+        ensures answers { (held : ℕ) → held < MOST_FIXES → Fixes D.seen
             (moment_of F.seen R.seen self.old frames.old redo.old)
             (moment_of F.seen R.seen self.new frames.new redo.new) by held page now result }
     {
@@ -258,7 +245,7 @@ impl<D: PageDisk> Desk<D> {
         requires entries { HasPlaces 4 self.old }
         requires ready { IsReady D.seen (moment_of F.seen R.seen self.old frames.old redo.old) by }
         requires asked { IsAsked (F.seen frames.old) self.old.state held page }
-        requires fixes { held < 64 → (f : ℕ) → f < length (F.seen frames.old).rows → 0 < F.room frames.old f }
+        requires fixes { held < MOST_FIXES → (f : ℕ) → f < length (F.seen frames.old).rows → 0 < F.room frames.old f }
         ensures keeps { Keeps D.seen 4
             (moment_of F.seen R.seen self.old frames.old redo.old)
             (moment_of F.seen R.seen self.new frames.new redo.new) }
@@ -272,7 +259,7 @@ impl<D: PageDisk> Desk<D> {
             self.refuse(frames, by, page, call, Cause::NoSuchPage { pages });
             return Err(FixErr::NoSuchPage { pages });
         }
-        if held >= 64 {
+        if held >= MOST_FIXES {
             let call = Call::Fix { page, now };
             self.refuse(frames, by, page, call, Cause::HoldFull { held });
             return Err(FixErr::HoldFull { held });
@@ -297,10 +284,10 @@ impl<D: PageDisk> Desk<D> {
         page: PageId,
         now: u64,
     ) -> Result<Granted, FixErr>
-        requires places { self.old.state.config.first + length self.old.state.history + 4 < 2 ^ 48 }
+        requires places { self.old.state.config.first + length self.old.state.history + 4 < 2 ^ CLOCK_BITS }
         requires ready { IsReady D.seen (moment_of F.seen R.seen self.old frames.old redo.old) by }
         requires asked { IsAsked (F.seen frames.old) self.old.state held page }
-        requires fixes { held < 64 → (f : ℕ) → f < length (F.seen frames.old).rows → 0 < F.room frames.old f }
+        requires fixes { held < MOST_FIXES → (f : ℕ) → f < length (F.seen frames.old).rows → 0 < F.room frames.old f }
         ensures keeps { Keeps D.seen 4
             (moment_of F.seen R.seen self.old frames.old redo.old)
             (moment_of F.seen R.seen self.new frames.new redo.new) }

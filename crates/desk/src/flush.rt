@@ -1,10 +1,10 @@
 //! Writing a page behind its log.
 ghost use Rattle.std.specs.Prelude.{ℕ, ◌≡◌, ◌<◌, ◌≤◌, OnOk, OnErr, IfOk, IfErr, IsTrue, length, vec_len};
 ghost use Rattle.page_disk.specs.Disks.{IsInside, IsSameDisk, IsOtherwiseSame, Fades};
-ghost use Rattle.redo_mark.specs.Logs.{IsLater, IsKept};
 ghost use Rattle.desk.specs.Reads.{IsFault, RoseWithin};
 ghost use Rattle.desk.specs.Changes.{IsImageTold, IsWriteFault, IsForced, covered_to};
-ghost use Rattle.desk.specs.Logged.{IsMarkBehind};
+ghost use Rattle.desk.specs.Moments.{log_seen};
+ghost use Rattle.desk.specs.Writing.{MayWrite, Covers, Writes};
 
 use page_disk::PageDisk;
 use page_ids::{Image, PageId, encode};
@@ -29,14 +29,10 @@ fn cover<R: RedoDisk>(redo: &mut Redo<R>, lsn: u64) -> Result<Covered, Fault>
     requires known { lsn ≤ redo.old.seen.end }
     ensures ok { IfOk result (λ c. (lsn ≤ c) × (c ≡ redo.new.seen.durable) × (c ≤ redo.new.seen.end)) }
     ensures mark { OnOk result (redo.new.seen.durable ≡ covered_to redo.old.seen.durable redo.old.seen.end lsn) }
-    ensures end { redo.new.seen.end ≡ redo.old.seen.end }
     ensures fault { IfErr result (λ f. RoseWithin redo.old.seen.faults redo.new.seen.faults f.before f.after) }
+    ensures forced { OnErr result ((redo.new.seen.durable < lsn) × (redo.new.seen.durable ≡ redo.old.seen.durable)) }
     ensures idle { lsn ≤ redo.old.seen.durable → redo.new ≡ redo.old }
-    ensures raised { redo.old.seen.durable < lsn → OnOk result (redo.new.seen.durable ≡ redo.old.seen.end) }
-    ensures forced { OnErr result ((redo.old.seen.durable < lsn) × (redo.new.seen.durable ≡ redo.old.seen.durable)) }
-    ensures later { IsLater redo.old.seen redo.new.seen }
-    ensures opening { redo.new.opening ≡ redo.old.opening }
-    ensures kept { IsKept redo.new.seen (R.seen redo.new.disk).told }
+    ensures log { Covers (log_seen R.seen redo.old) (log_seen R.seen redo.new) }
 {
     match redo.cover(lsn) {
         Ok(covered) => Ok(covered),
@@ -83,26 +79,13 @@ pub(crate) fn write_page<D: PageDisk, R: RedoDisk>(
     image: &Image,
     buffer: &mut Vec<u8>,
 ) -> Result<u64, WriteErr>
-    requires inside { IsInside (D.seen disk.old).spaces page }
-    requires image { length image.now.bytes ≡ (D.seen disk.old).size }
-    requires buffer { vec_len buffer.old ≡ (D.seen disk.old).size }
-    requires known { image.now.lsn ≤ redo.old.seen.end }
-    ensures ok { IfOk result (λ upto. (image.now.lsn ≤ upto) × (upto ≡ redo.new.seen.durable)) }
-    ensures mark { OnOk result (redo.new.seen.durable ≡ covered_to redo.old.seen.durable redo.old.seen.end image.now.lsn) }
-    ensures end { redo.new.seen.end ≡ redo.old.seen.end }
-    ensures written { OnOk result (IsImageTold page image.now (D.seen disk.old) (D.seen disk.new)) }
-    ensures failed { OnErr result (Fades ((D.seen disk.old).told page) ((D.seen disk.new).told page)) }
+    requires may { MayWrite (D.seen disk.old) redo.old.seen page image.now (vec_len buffer.old) }
+    ensures answers { Writes D.seen disk.old disk.new
+        (log_seen R.seen redo.old) (log_seen R.seen redo.new) page image.now result }
     ensures others { IsOtherwiseSame page (D.seen disk.old) (D.seen disk.new) }
-    ensures fault { IfErr result (λ e. IsWriteFault (D.seen disk.old).faults (D.seen disk.new).faults
-        redo.old.seen.faults redo.new.seen.faults e) }
     ensures idle { image.now.lsn ≤ redo.old.seen.durable → redo.new ≡ redo.old }
-    ensures raised { redo.old.seen.durable < image.now.lsn → OnOk result (redo.new.seen.durable ≡ redo.old.seen.end) }
-    ensures marks { IsMarkBehind redo.old.seen redo.new.seen.durable }
-    ensures forced { IfErr result (λ e. IsForced disk.old disk.new (redo.old.seen.durable < image.now.lsn) e) }
+    ensures log { Covers (log_seen R.seen redo.old) (log_seen R.seen redo.new) }
     ensures buffer { vec_len buffer.new ≡ vec_len buffer.old }
-    ensures later { IsLater redo.old.seen redo.new.seen }
-    ensures opening { redo.new.opening ≡ redo.old.opening }
-    ensures kept { IsKept redo.new.seen (R.seen redo.new.disk).told }
 {
     let covered = match cover(redo, image.lsn()) {
         Ok(covered) => covered,
@@ -118,9 +101,9 @@ pub(crate) fn write_page<D: PageDisk, R: RedoDisk>(
 pub(crate) fn cover_all<R: RedoDisk>(redo: &mut Redo<R>) -> Result<(), WriteErr>
     ensures whole { OnOk result (redo.new.seen.durable ≡ redo.new.seen.end) }
     ensures fault { (first last : ℕ) → IfErr result (λ e. IsWriteFault first last redo.old.seen.faults redo.new.seen.faults e) }
-    ensures later { IsLater redo.old.seen redo.new.seen }
-    ensures opening { redo.new.opening ≡ redo.old.opening }
-    ensures kept { IsKept redo.new.seen (R.seen redo.new.disk).told }
+    ensures forced { OnErr result (redo.new.seen.durable < redo.new.seen.end) }
+    ensures idle { redo.old.seen.end ≤ redo.old.seen.durable → redo.new ≡ redo.old }
+    ensures log { Covers (log_seen R.seen redo.old) (log_seen R.seen redo.new) }
 {
     let end = redo.end();
     match cover(redo, end) {

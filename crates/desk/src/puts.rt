@@ -1,5 +1,6 @@
 //! The put: bytes of a resident page are changed, and the change is logged first.
 ghost use Rattle.std.specs.Prelude.{◌≡◌, ◌<◌, ◌≤◌, ◌+◌, ◌^◌, OnOk, IfSome, length};
+ghost use Rattle.page_ids.specs.declared.limits.TheConstants.{CLOCK_BITS, RECORD_BYTES};
 ghost use Rattle.trail.specs.Trails.{mark};
 ghost use Rattle.trail.specs.History.{change};
 ghost use Rattle.trail.specs.Dirt.{log_end};
@@ -28,9 +29,9 @@ use trail::{Call, Cause, Kind};
 impl<D: PageDisk> Desk<D> {
     /// The place of the next entry.
     pub(crate) fn next_place(&self) -> u64
-        requires places { self.now.state.config.first + length self.now.state.history + 1 < 2 ^ 48 }
+        requires places { self.now.state.config.first + length self.now.state.history + 1 < 2 ^ CLOCK_BITS }
         ensures place { result ≡ mark self.now.state.config.first self.now.state.history + 1 }
-        ensures early { result < 2 ^ 48 }
+        ensures early { result < 2 ^ CLOCK_BITS }
     {
         self.lists.mark() + 1
     }
@@ -61,7 +62,7 @@ impl<D: PageDisk> Desk<D> {
         requires alone { AreAlone (F.seen frames.old) }
         requires turn { HasTurn (F.seen frames.old) by }
         requires asked { IsPutAsked (F.seen frames.old) self.old.state page at (length bytes) }
-        requires span { (log_end self.old.state.history ≤ span.start) × (span.end ≡ span.start + 21 + length bytes) }
+        requires span { (log_end self.old.state.history ≤ span.start) × (span.end ≡ span.start + RECORD_BYTES + length bytes) }
         ensures keeps { (l : LogSeen) → Holds l.seen (record_of (put_change page at bytes) span.start) span.start → span.end ≤ l.seen.end
             → Keeps D.seen 1 (moment self.old.state (F.seen frames.old) l) (moment self.new.state (F.seen frames.new) l) }
         ensures done { IsPutBy self.old.state self.new.state (F.seen frames.old).rows (F.seen frames.new).rows by page at bytes result }
@@ -104,7 +105,7 @@ impl<D: PageDisk> Desk<D> {
         at: u32,
         bytes: &[u8],
     ) -> Result<PutDone, PutErr>
-        requires places { self.old.state.config.first + length self.old.state.history + 1 < 2 ^ 48 }
+        requires places { self.old.state.config.first + length self.old.state.history + 1 < 2 ^ CLOCK_BITS }
         requires ready { IsReady D.seen (moment_of F.seen R.seen self.old frames.old redo.old) by }
         requires alone { AreAlone (F.seen frames.old) }
         requires asked { IsPutAsked (F.seen frames.old) self.old.state page at (length bytes.now) }
@@ -138,7 +139,7 @@ impl<D: PageDisk> Desk<D> {
 fn give_changed<F: Frames>(frames: &mut F, frame: u32, image: Image, place: u64)
     requires latch { IsLatched (F.seen frames.old) frame }
     requires may { MayLay (F.seen frames.old) frame image }
-    requires early { place < 2 ^ 48 }
+    requires early { place < 2 ^ CLOCK_BITS }
     requires clock { IfSome (F.seen frames.old).history (λ h. place ≡ change h.entries frame) }
     ensures seen { F.seen frames.new ≡ with_row (F.seen frames.old) frame
         (unlatched_row (stamped_row (laid_row (row_at (F.seen frames.old) frame) image) place)) }

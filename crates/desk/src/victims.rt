@@ -1,31 +1,29 @@
 //! How a frame is had for a page that is not resident: a free one, or that of a victim (buf0lru's `buf_LRU_get_free_block`).
-ghost use Rattle.std.specs.Prelude.{List, ◌≡◌, ◌<◌, ◌≤◌, ◌+◌, ◌^◌, ◌⊎◌, ◌++◌, [], ◌∷◌, true, false, Some, None, Option, OnOk, OnErr, IfOk, IfErr, IfSome, IfNone, MatchResult, Contains, IsPermutation, length, filter, slice_set, ◌⊎◌};
+ghost use Rattle.std.specs.Prelude.{List, ◌≡◌, ◌<◌, ◌≤◌, ◌+◌, ◌^◌, ◌⊎◌, ◌++◌, [], ◌∷◌, true, false, Some, None, Option, OnOk, IfOk, IfErr, IfSome, IfNone, MatchResult, Contains, IsPermutation, length, filter, slice_set, ◌⊎◌};
 ghost use Rattle.std.specs.List.Sorted.{IsNonDecreasingBy};
-ghost use Rattle.page_ids.specs.Content.{Content};
 ghost use Rattle.page_ids.specs.FrameWord.{fixes_of};
-ghost use Rattle.page_ids.specs.Same.{same_page};
 ghost use Rattle.page_ids.specs.declared.ids.PageId.{PageId};
-ghost use Rattle.page_disk.specs.Disks.{IsOtherwiseSame, Fades};
+ghost use Rattle.page_ids.specs.declared.limits.TheConstants.{CLOCK_BITS};
+ghost use Rattle.page_disk.specs.Disks.{IsOtherwiseSame};
 ghost use Rattle.trail.specs.History.{home};
-ghost use Rattle.trail.specs.Book.{book, frame_in_turn};
 ghost use Rattle.trail.specs.Dirt.{dirty, dirt_of, is_dirty};
 ghost use Rattle.trail.specs.Victim.{walk};
 ghost use Rattle.trail.specs.declared.event.Dirty.{Dirty};
 ghost use Rattle.trail.specs.declared.event.Entry.{Entry};
-ghost use Rattle.frame_words.specs.Conditions.{IsFree, IsSteady, AreFound};
+ghost use Rattle.frame_words.specs.Appends.{appended};
+ghost use Rattle.frame_words.specs.Conditions.{IsUntouched, IsSteady, AreFound};
 ghost use Rattle.frame_words.specs.Rows.{published_row};
 ghost use Rattle.frame_words.specs.Seen.{FramesSeen, row_at, Finds, KeepsRoom};
-ghost use Rattle.desk.specs.Answers.{MayTake, HasFrameFor, IsOccupied, Unhad};
+ghost use Rattle.desk.specs.Answers.{IsRefusable, MayTake, IsNext, HasFrameFor, IsOccupied, Unhad};
 ghost use Rattle.desk.specs.Base.{Opened};
 ghost use Rattle.desk.specs.Behind.{IsBehind};
-ghost use Rattle.desk.specs.Changes.{IsImageTold, IsWriteFault, IsForced, LeavesDesk};
 ghost use Rattle.instance_lists.specs.Walk.{test_of, part_of};
-ghost use Rattle.desk.specs.Claimed.{HasLooked, IsTaken, ArePassedBy, StopsAt, AreTiedBut, KeepsLog, cause_of, refusal_of};
-ghost use Rattle.instance_lists.specs.Ledger.{IsVacant};
-ghost use Rattle.desk.specs.Moments.{moment_of, HasPlaces, IsReady, Keeps, LogSeen, moment, IsAtRest};
-ghost use Rattle.desk.specs.Steps.{IsAppended, IsRefused};
-ghost use Rattle.desk.specs.Tied.{AreTied, HasTurn, IsOwn};
-ghost use Rattle.desk.specs.Victims.{IsCleanedFirst, IsAhead, AsksFor, LeavesTurn};
+ghost use Rattle.desk.specs.Claimed.{HasLooked, IsTaken, ArePassedBy, StopsAt, AreTiedBut, KeepsLog, WroteClaimed, UnwroteClaimed, CleanedClaimed, UncleanedClaimed, LeavesClaimed, cause_of, refusal_of};
+ghost use Rattle.desk.specs.Moments.{log_seen, moment_of, HasPlaces, IsReady, Follows, Keeps, Proceeds, LogSeen, moment, IsAtRest};
+ghost use Rattle.desk.specs.Steps.{Appends, next_entry};
+ghost use Rattle.desk.specs.Tied.{AreTied, HasTurn};
+ghost use Rattle.desk.specs.Victims.{IsAhead, AsksFor};
+ghost use Rattle.desk.specs.Writing.{Covers};
 ghost use Rattle.instance_lists.specs.Walk.{AreOrderly};
 
 use crate::calls::{Caller, FrameErr};
@@ -156,18 +154,13 @@ impl<D: PageDisk> Desk<D> {
         ensures seen { F.seen frames.new ≡ F.seen frames.old }
         ensures fixes { KeepsRoom (F.room frames.old) (F.room frames.new) }
         ensures kept { self.new ≡ record self.old { state = record self.old.state { disk = self.new.state.disk } } }
-        ensures lsn { IfOk result (λ w. (d : Dirty) × (dirt_of (dirty self.old.state.history) victim.page ≡ Some d)
-            × (w.0 ≡ d.newest) × (d.newest ≤ w.1) × (w.1 ≡ redo.new.seen.durable)) }
-        ensures written { OnOk result ((content : Content) → (row_at (F.seen frames.old) victim.frame).image ≡ Some (Some content)
-            → IsImageTold victim.page content (D.seen self.old.state.disk) (D.seen self.new.state.disk)) }
-        ensures failed { OnErr result (Fades ((D.seen self.old.state.disk).told victim.page) ((D.seen self.new.state.disk).told victim.page)) }
+        ensures answers { MatchResult result
+            (λ w. WroteClaimed (D.seen self.old.state.disk) (D.seen self.new.state.disk) redo.new.seen
+            self.old.state.history (row_at (F.seen frames.old) victim.frame).image victim.page w)
+            (λ e. UnwroteClaimed D.seen self.old.state self.new.state.disk redo.old.seen redo.new.seen victim.page e) }
         ensures others { IsOtherwiseSame victim.page (D.seen self.old.state.disk) (D.seen self.new.state.disk) }
-        ensures fault { IfErr result (λ e. IsWriteFault (D.seen self.old.state.disk).faults (D.seen self.new.state.disk).faults
-            redo.old.seen.faults redo.new.seen.faults e) }
         ensures covered { (redo.new ≡ redo.old) ⊎ IsAhead self.old.state.history victim.page redo.old.seen.durable }
-        ensures forced { IfErr result (λ e. IsForced self.old.state.disk self.new.state.disk
-            (IsAhead self.old.state.history victim.page redo.old.seen.durable) e) }
-        ensures log { KeepsLog R.seen redo.old redo.new self.old.state.history self.new.state.history }
+        ensures log { Covers (log_seen R.seen redo.old) (log_seen R.seen redo.new) }
     {
         let Victim { page, frame, .. } = victim;
         let image = frames.lift(frame);
@@ -188,34 +181,18 @@ impl<D: PageDisk> Desk<D> {
         by: Caller,
         victim: Victim,
     ) -> Result<(), WriteErr>
-        requires places { self.old.state.config.first + length self.old.state.history + 1 < 2 ^ 48 }
-        requires room { 0 < self.old.room }
+        requires entries { HasPlaces 1 self.old }
         requires but { AreTiedBut D.seen (F.seen frames.old) self.old.state victim.page victim.frame }
         requires turn { HasTurn (F.seen frames.old) by }
         requires logged { (d : Dirty) → dirt_of (dirty self.old.state.history) victim.page ≡ Some d → d.newest ≤ redo.old.seen.end }
-        ensures cleaned { OnOk result (IsCleanedFirst self.old.state.config.first by victim.page self.old.state.history self.new.state.history) }
-        ensures clean { OnOk result (is_dirty self.new.state.history victim.page ≡ false) }
-        ensures failed { OnErr result (self.new ≡ record self.old { state = record self.old.state { disk = self.new.state.disk } }) }
-        ensures soiled { OnErr result (is_dirty self.old.state.history victim.page ≡ true) }
-        ensures unused { is_dirty self.old.state.history victim.page ≡ false → self.new.state.disk ≡ self.old.state.disk }
+        ensures answers { MatchResult result
+            (λ _. CleanedClaimed self.old.state self.new.state by victim.page)
+            (λ e. UncleanedClaimed D.seen self.old self.new redo.old.seen redo.new.seen victim.page e) }
+        ensures left { LeavesClaimed D.seen self.old.state self.new.state (F.seen frames.old) (F.seen frames.new) victim.page victim.frame }
         ensures covered { (redo.new ≡ redo.old) ⊎ IsAhead self.old.state.history victim.page redo.old.seen.durable }
-        ensures forced { IfErr result (λ e. IsForced self.old.state.disk self.new.state.disk
-            (IsAhead self.old.state.history victim.page redo.old.seen.durable) e) }
-        ensures fault { IfErr result (λ e. IsWriteFault (D.seen self.old.state.disk).faults (D.seen self.new.state.disk).faults
-            redo.old.seen.faults redo.new.seen.faults e) }
-        ensures but { AreTiedBut D.seen (F.seen frames.new) self.new.state victim.page victim.frame }
-        ensures rows { (F.seen frames.new).rows ≡ (F.seen frames.old).rows }
-        ensures found { (F.seen frames.new).found ≡ (F.seen frames.old).found }
-        ensures turn { LeavesTurn (F.seen frames.old) (F.seen frames.new) }
-        ensures room { self.old.room ≤ self.new.room + 1 }
-        ensures desk { LeavesDesk D.seen self.old.state self.new.state }
-        ensures others { (q : PageId) → same_page victim.page q ≡ false → (D.seen self.new.state.disk).told q ≡ (D.seen self.old.state.disk).told q }
         ensures log { KeepsLog R.seen redo.old redo.new self.old.state.history self.new.state.history }
+        ensures room { self.old.room ≤ self.new.room + 1 }
         ensures fixes { KeepsRoom (F.room frames.old) (F.room frames.new) }
-        ensures behind { (o : Opened) → IsBehind D.seen o self.old.state (F.seen frames.old)
-            → IsBehind D.seen o self.new.state (F.seen frames.new) }
-        ensures stands { OnErr result ((o : Opened) (s : FramesSeen) → IsBehind D.seen o self.old.state s
-            → IsBehind D.seen o self.new.state s) }
     {
         let page = victim.page;
         let soiled = self.lists.is_dirty(page);
@@ -233,18 +210,14 @@ impl<D: PageDisk> Desk<D> {
 
     /// Appends that a page, which is clean, has left its frame. The frame stays claimed.
     fn let_go<F: Frames>(&mut self, frames: &mut F, by: Caller, victim: Victim, passed: Words)
-        requires places { self.old.state.config.first + length self.old.state.history + 1 < 2 ^ 48 }
-        requires room { 0 < self.old.room }
+        requires entries { HasPlaces 1 self.old }
         requires but { AreTiedBut D.seen (F.seen frames.old) self.old.state victim.page victim.frame }
         requires clean { is_dirty self.old.state.history victim.page ≡ false }
         requires turn { HasTurn (F.seen frames.old) by }
         requires found { IfSome (F.seen frames.old).found (λ now. AreFound now passed) }
-        ensures appended { IsAppended self.old.state self.new.state by (Kind.Evict victim.page victim.frame passed) }
-        ensures disk { self.new.state.disk ≡ self.old.state.disk }
-        ensures rows { (F.seen frames.new).rows ≡ (F.seen frames.old).rows }
-        ensures next { frame_in_turn (book self.new.state.config self.new.state.history) ≡ Some victim.frame }
-        ensures vacant { IsVacant self.new.state.history victim.frame }
-        ensures turn { LeavesTurn (F.seen frames.old) (F.seen frames.new) }
+        ensures appends { Appends self.old.state self.new.state by (Kind.Evict victim.page victim.frame passed) }
+        ensures seen { F.seen frames.new ≡ appended (F.seen frames.old) (next_entry self.old.state by (Kind.Evict victim.page victim.frame passed)) }
+        ensures next { IsNext self.new.state victim.frame }
         ensures room { self.old.room ≤ self.new.room + 1 }
         ensures tied { AreTied D.seen (F.seen frames.new) self.new.state }
         ensures fixes { KeepsRoom (F.room frames.old) (F.room frames.new) }
@@ -273,20 +246,15 @@ impl<D: PageDisk> Desk<D> {
         victim: Victim,
         error: WriteErr,
     ) -> FrameErr
-        requires places { self.old.state.config.first + length self.old.state.history + 1 < 2 ^ 48 }
-        requires room { 0 < self.old.room }
+        requires entries { HasPlaces 1 self.old }
         requires but { AreTiedBut D.seen (F.seen frames.old) self.old.state victim.page victim.frame }
-        requires clock { (victim.clock ≡ (row_at (F.seen frames.old) victim.frame).clock) × (victim.clock < 2 ^ 48) }
-        requires turn { HasTurn (F.seen frames.old) by }
-        requires own { IsOwn (F.seen frames.old) self.old.state page }
-        requires asked { AsksFor page call }
-        requires few { IfSome (F.seen frames.old).opened (λ opened. length opened < 64) }
+        requires clock { (victim.clock ≡ (row_at (F.seen frames.old) victim.frame).clock) × (victim.clock < 2 ^ CLOCK_BITS) }
+        requires asked { IsRefusable (F.seen frames.old) self.old.state by page call (cause_of error) }
         ensures refused { result ≡ refusal_of error }
-        ensures appended { IsRefused self.old.state self.new.state by call (cause_of error) }
-        ensures disk { self.new.state.disk ≡ self.old.state.disk }
+        ensures appends { Appends self.old.state self.new.state by (Kind.Refused call (cause_of error)) }
         ensures rows { (F.seen frames.new).rows ≡ slice_set (F.seen frames.old).rows victim.frame
             (published_row (row_at (F.seen frames.old) victim.frame) victim.page victim.clock) }
-        ensures base { (F.seen frames.new).base ≡ (F.seen frames.old).base }
+        ensures view { Follows (next_entry self.old.state by (Kind.Refused call (cause_of error)) ∷ []) (F.seen frames.old) (F.seen frames.new) }
         ensures tied { AreTied D.seen (F.seen frames.new) self.new.state }
         ensures fixes { KeepsRoom (F.room frames.old) (F.room frames.new) }
         ensures stands { (o : Opened) (s : FramesSeen) → IsBehind D.seen o self.old.state s
@@ -344,7 +312,7 @@ impl<D: PageDisk> Desk<D> {
         requires asked { MayTake D.seen (F.seen frames.old) self.old.state by page }
         requires for_page { AsksFor page call }
         requires full { IsOccupied self.old.state }
-        ensures keeps { Keeps D.seen 2
+        ensures keeps { Proceeds D.seen by 2
             (moment_of F.seen R.seen self.old frames.old redo.old)
             (moment_of F.seen R.seen self.new frames.new redo.new) }
         ensures answers { HasFrameFor D.seen
@@ -384,7 +352,7 @@ impl<D: PageDisk> Desk<D> {
         requires ready { IsReady D.seen (moment_of F.seen R.seen self.old frames.old redo.old) by }
         requires asked { MayTake D.seen (F.seen frames.old) self.old.state by page }
         requires for_page { AsksFor page call }
-        ensures keeps { Keeps D.seen 2
+        ensures keeps { Proceeds D.seen by 2
             (moment_of F.seen R.seen self.old frames.old redo.old)
             (moment_of F.seen R.seen self.new frames.new redo.new) }
         ensures answers { HasFrameFor D.seen
@@ -402,7 +370,7 @@ impl<D: PageDisk> Desk<D> {
 
 /// Claims a page's frame, and answers its modify clock, which it keeps.
 fn claim_at<F: Frames>(frames: &mut F, frame: u32) -> Result<u64, Word>
-    requires free { IsFree (F.seen frames.old) frame }
+    requires free { IsUntouched (F.seen frames.old) frame }
     requires steady { IsSteady (F.seen frames.old) frame }
     requires resident { (row_at (F.seen frames.old) frame).resident ≡ true }
     ensures ok { (h : List Entry) (p : PageId) → home h p ≡ Some frame

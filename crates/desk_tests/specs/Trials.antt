@@ -5,6 +5,7 @@ use Rattle.page_disk.specs.MemoryDisks.{DiskMemory, disk_seen}
 use Rattle.trail.specs.Dirt.{log_end}
 use Rattle.trail.specs.History.{home}
 use Rattle.frame_words.specs.Plain.{Plain, seen_of}
+use Rattle.desk.specs.Moments.{IsEmptyHanded}
 use Rattle.desk.specs.State.{State}
 use Rattle.desk.specs.Tied.{AreTied}
 
@@ -17,5 +18,6 @@ pub record IsOnTrial (calls : ℕ) (desk : State DiskMemory) (frames : Plain) (e
   pub few : calls ≤ 2001
   pub short : length desk.history ≤ 9000 * calls
   pub tied : AreTied disk_seen (seen_of frames) desk
+  pub hands : IsEmptyHanded desk
   pub known : log_end desk.history ≤ end
   pub resident : IfSome fixed (λ page. IsSome (home desk.history (record { space = 0; page = page })))

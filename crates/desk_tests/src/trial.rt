@@ -2,6 +2,7 @@
 ghost use Rattle.std.specs.Prelude.{◌≡◌, ◌<◌, ◌≤◌, ◌+◌, [], ℕ, IfOk, IfSome, IsSome, IsTrue, length};
 ghost use Rattle.frame_words.specs.Plain.{seen_of, room_of};
 ghost use Rattle.instance_lists.specs.Ledger.{IsOneChunk};
+ghost use Rattle.desk.specs.Moments.{IsEmptyHanded};
 ghost use Rattle.desk.specs.Steps.{row_in};
 ghost use Rattle.desk.specs.Tied.{AreAlone};
 ghost use Rattle.desk.specs.Victims.{AreSettled};
@@ -74,6 +75,7 @@ fn desk_of(alloc: Global) -> Result<Desk<DiskMemory>, OutOfMemory>
     ensures size { IfOk result (λ desk. desk.state.config.page ≡ PageSize.Kib4) }
     ensures chunk { IfOk result (λ desk. IsOneChunk desk.state.config) }
     ensures history { IfOk result (λ desk. desk.state.history ≡ []) }
+    ensures hands { IfOk result (λ desk. IsEmptyHanded desk.state) }
 {
     let disk = disk_of(alloc)?;
     match Desk::new(alloc, &CONFIG, 0, disk) {

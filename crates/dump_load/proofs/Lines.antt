@@ -10,7 +10,8 @@ use Rattle.page_ids.specs.Numerals.{number_of, cut_at}
 use Rattle.page_ids.specs.declared.ids.PageId.{PageId}
 use Rattle.page_ids.proofs.Numbers.{number_of-decimal, number_is}
 use Rattle.page_ids.proofs.Cuts.{decimal_lacks, cut_here, cut_is}
-use Rattle.dump_load.specs.Text.{id_line, dump_text, IsId, AreIds, ended}
+use Rattle.page_ids.specs.Typed.{FitsId, ArePages}
+use Rattle.dump_load.specs.Text.{id_line, dump_text, ended}
 use Rattle.dump_load.specs.Reading.{id_of}
 
 -- no newline in it
@@ -21,13 +22,13 @@ whole_append : (xs ys : List ℕ) → IsWhole xs → IsWhole ys → IsWhole (xs 
 whole_append [] ys h k = k
 whole_append (x ∷ xs) ys h k = (h.0, whole_append xs ys h.1 k)
 
-pub line_whole : (p : PageId) → IsId p → IsWhole (id_line p)
+pub line_whole : (p : PageId) → FitsId p → IsWhole (id_line p)
 line_whole p typed =
     let digits = λ (n : ℕ) (fits : n < 2 ^ 64). recursion_from_All (λ x. (x == 10) ≡ false) (decimal n) (decimal_lacks 10 n (inl (omega arith)) fits) in
     whole_append (decimal p.space) (44 ∷ decimal p.page) (digits p.space (omega (arith, typed.0))) (refl, digits p.page (omega (arith, typed.1)))
 
 -- an id's own line is read
-pub line_read : (p : PageId) → IsId p → id_of (id_line p) ≡ Some p
+pub line_read : (p : PageId) → FitsId p → id_of (id_line p) ≡ Some p
 line_read p typed =
     let found = cut_here 44 (decimal p.space) (decimal p.page) (decimal_lacks 44 p.space (inl (omega arith)) (omega (arith, typed.0))) in
     let space = number_of-decimal (2 ^ 32) p.space (omega (arith, typed.0)) typed.0 in
@@ -35,7 +36,7 @@ line_read p typed =
     rw found (rw space (rw page refl))
 
 -- a line that is read is an id's own
-pub line_is : (line : List ℕ) (p : PageId) → id_of line ≡ Some p → (line ≡ id_line p) × IsId p
+pub line_is : (line : List ℕ) (p : PageId) → id_of line ≡ Some p → (line ≡ id_line p) × FitsId p
 line_is line p e = option_and_then_some _ (cut_at 44 line) p e (λ r cut e1.
     option_and_then_some _ (number_of (2 ^ 32) r.0) p e1 (λ space first e2.
     option_and_then_some _ (number_of (2 ^ 32) r.1) p e2 (λ page second e3.
@@ -44,9 +45,9 @@ line_is line p e = option_and_then_some _ (cut_at 44 line) p e (λ r cut e1.
     let id : PageId = record { space = space; page = page } in
     let same : id ≡ p = cc in
     let text : line ≡ id_line id = cut_is 44 line r.0 r.1 cut ∙ ap (λ xs. xs ++ 44 ∷ r.1) s.0 ∙ ap (λ xs. decimal space ++ 44 ∷ xs) n.0 in
-    subst (λ q. (line ≡ id_line q) × IsId q) same (text, (s.1, n.1))))))
+    subst (λ q. (line ≡ id_line q) × FitsId q) same (text, (s.1, n.1))))))
 
-pub one_id : (p q : PageId) → IsId p → IsId q → id_line p ≡ id_line q → p ≡ q
+pub one_id : (p q : PageId) → FitsId p → FitsId q → id_line p ≡ id_line q → p ≡ q
 one_id p q typed other e = let same : Some p ≡ Some q = sym (line_read p typed) ∙ ap id_of e ∙ line_read q other in cc
 
 -- texts that begin with a line begin with the same one
@@ -85,7 +86,7 @@ text_push ps p behind =
     ∙ sym (append_assoc (dump_text ps) (id_line p ++ 10 ∷ []) behind)
     ∙ ap (λ ws. ws ++ behind) (sym (text_append ps (p ∷ [])))
 
-pub typed_push : (ps : List PageId) (p : PageId) → AreIds ps → IsId p → AreIds (ps ++ p ∷ [])
+pub typed_push : (ps : List PageId) (p : PageId) → ArePages ps → FitsId p → ArePages (ps ++ p ∷ [])
 typed_push [] p h k = (k, tt)
 typed_push (q ∷ qs) p h k = (h.0, typed_push qs p h.1 k)
 
@@ -93,14 +94,14 @@ pub text_more : (ids : List PageId) (i : ℕ) (d : PageId) → i < length ids �
 text_more ids i d inside = ap dump_text (take_more ids i d inside) ∙ text_append (take i ids) (get_or ids i d ∷ [])
 
 -- the last line without its newline
-pub ended_cut : (ids : List PageId) (last : PageId) → IsId last → ended (dump_text ids ++ id_line last) ≡ dump_text (ids ++ last ∷ [])
+pub ended_cut : (ids : List PageId) (last : PageId) → FitsId last → ended (dump_text ids ++ id_line last) ≡ dump_text (ids ++ last ∷ [])
 ended_cut [] last typed = ended_last (id_line last) (omega (arith, length-append (decimal last.space) (44 ∷ decimal last.page))) (line_whole last typed)
 ended_cut (p ∷ ps) last typed =
     ap ended (append_assoc (id_line p) (10 ∷ dump_text ps) (id_line last))
     ∙ ended_at (id_line p) (dump_text ps ++ id_line last)
     ∙ ap (λ ws. id_line p ++ 10 ∷ ws) (ended_cut ps last typed)
 
-pub typed_last : (ids : List PageId) (last : PageId) → AreIds (ids ++ last ∷ []) → IsId last
+pub typed_last : (ids : List PageId) (last : PageId) → ArePages (ids ++ last ∷ []) → FitsId last
 typed_last [] last h = h.0
 typed_last (p ∷ ps) last h = typed_last ps last h.1
 

@@ -5,12 +5,13 @@ use Rattle.std.proofs.lemmas.List.{length-append}
 use Rattle.page_ids.specs.declared.ids.PageId.{PageId}
 use Rattle.dump_load.specs.declared.text.DumpErr.{DumpErr}
 use Rattle.dump_load.specs.declared.text.DumpErr.TheVariants.{BadLine, TooMany, OutOfMemory}
-use Rattle.dump_load.specs.Text.{id_line, dump_text, ended, AreIds, IsNoId, IsDump, IsBadLine, IsTooMany, IsRefused}
+use Rattle.page_ids.specs.Typed.{ArePages}
+use Rattle.dump_load.specs.Text.{id_line, dump_text, ended, IsNoId, IsDump, IsBadLine, IsTooMany, IsRefused}
 use Rattle.dump_load.proofs.Lines.{IsWhole, line_whole, one_id, cut_one}
 
 -- the shorter of two beginnings begins the longer one
-along : (ids more : List PageId) (r s : List ℕ) → AreIds ids → AreIds more → dump_text ids ++ r ≡ dump_text more ++ s → length ids ≤ length more
-    → (later : List PageId) × (more ≡ ids ++ later) × (r ≡ dump_text later ++ s) × AreIds later
+along : (ids more : List PageId) (r s : List ℕ) → ArePages ids → ArePages more → dump_text ids ++ r ≡ dump_text more ++ s → length ids ≤ length more
+    → (later : List PageId) × (more ≡ ids ++ later) × (r ≡ dump_text later ++ s) × ArePages later
 along [] more r s typed other e le = (more, refl, e, other)
 along (p ∷ ps) [] r s typed other e le = absurd (omega (arith, le))
 along (p ∷ ps) (q ∷ qs) r s typed other e le = next (along ps qs r s typed.1 other.1 first.1 (omega (arith, le)))
@@ -19,8 +20,8 @@ along (p ∷ ps) (q ∷ qs) r s typed other e le = next (along ps qs r s typed.1
     first = cut_one (id_line p) (id_line q) (dump_text ps ++ r) (dump_text qs ++ s) (line_whole p typed.0) (line_whole q other.0)
         (sym (append_assoc (id_line p) (10 ∷ dump_text ps) r) ∙ e ∙ append_assoc (id_line q) (10 ∷ dump_text qs) s)
 
-    next : (later : List PageId) × (qs ≡ ps ++ later) × (r ≡ dump_text later ++ s) × AreIds later
-        → (later : List PageId) × (q ∷ qs ≡ (p ∷ ps) ++ later) × (r ≡ dump_text later ++ s) × AreIds later
+    next : (later : List PageId) × (qs ≡ ps ++ later) × (r ≡ dump_text later ++ s) × ArePages later
+        → (later : List PageId) × (q ∷ qs ≡ (p ∷ ps) ++ later) × (r ≡ dump_text later ++ s) × ArePages later
     next t = (t.0, ap (λ x. x ∷ qs) (sym (one_id p q typed.0 other.0 first.0)) ∙ ap (λ xs. p ∷ xs) t.1, t.2, t.3)
 
 -- a line stands nowhere at the end of a text
@@ -32,7 +33,7 @@ none_later [] s e = (refl, sym e)
 none_later (p ∷ ps) s e = absurd (no_line (id_line p) (dump_text ps ++ s) (e ∙ append_assoc (id_line p) (10 ∷ dump_text ps) s))
 
 -- a bad line is no id's, so nothing that begins with ids goes on behind it
-bad_first : (line behind : List ℕ) (later : List PageId) (s : List ℕ) → IsWhole line → IsNoId line → AreIds later → line ++ 10 ∷ behind ≡ dump_text later ++ s → later ≡ []
+bad_first : (line behind : List ℕ) (later : List PageId) (s : List ℕ) → IsWhole line → IsNoId line → ArePages later → line ++ 10 ∷ behind ≡ dump_text later ++ s → later ≡ []
 bad_first line behind [] s whole bad typed e = refl
 bad_first line behind (p ∷ ps) s whole bad typed e =
     absurd (bad p typed.0 (cut_one line (id_line p) behind (dump_text ps ++ s) whole (line_whole p typed.0) (e ∙ append_assoc (id_line p) (10 ∷ dump_text ps) s)).0)

@@ -2,6 +2,7 @@
 use Rattle.std.specs.Prelude.{ℕ, List, [], ◌∷◌, ◌++◌, ◌≡◌, ◌≢◌, ◌==◌, ◌+◌, ◌<◌, ◌≤◌, ◌^◌, false, length, if◌then◌else◌}
 use Rattle.std.specs.Fmt.{decimal}
 use Rattle.std.specs.List.{AllByRecursion}
+use Rattle.page_ids.specs.Typed.{FitsId, ArePages}
 use Rattle.page_ids.specs.declared.ids.PageId.{PageId}
 use Rattle.dump_load.specs.declared.text.TheConstants.{MOST_IDS}
 use Rattle.dump_load.specs.declared.text.DumpErr.{DumpErr}
@@ -16,13 +17,6 @@ abbrev pub dump_text : List PageId → List ℕ
 dump_text [] = []
 dump_text (p ∷ ps) = id_line p ++ 10 ∷ dump_text ps
 
--- both numbers fit their types
-abbrev pub IsId : PageId → Type 0
-IsId p = (p.space < 2 ^ 32) × (p.page < 2 ^ 32)
-
-abbrev pub AreIds : List PageId → Type 0
-AreIds ids = AllByRecursion IsId ids
-
 -- the text with the newline of its last line, which may be missing
 abbrev pub ended : List ℕ → List ℕ
 ended [] = []
@@ -31,20 +25,20 @@ ended (b ∷ c ∷ bs) = b ∷ ended (c ∷ bs)
 
 -- the bytes are a dump of these ids
 pub record IsDump (bytes : List ℕ) (ids : List PageId) : Type 0 where
-  pub typed : AreIds ids
+  pub typed : ArePages ids
   pub text : ended bytes ≡ dump_text ids
   pub few : length ids ≤ MOST_IDS
 
 -- no id is spelled so
 abbrev pub IsNoId : List ℕ → Type 0
-IsNoId line = (p : PageId) → IsId p → line ≢ id_line p
+IsNoId line = (p : PageId) → FitsId p → line ≢ id_line p
 
 -- this is the first bad line, from 1: those before it are ids, and it is none
 pub record IsBadLine (bytes : List ℕ) (number : ℕ) : Type 0 where
   pub before : List PageId
   pub line : List ℕ
   pub behind : List ℕ
-  pub typed : AreIds before
+  pub typed : ArePages before
   pub text : ended bytes ≡ dump_text before ++ (line ++ 10 ∷ behind)
   pub place : length before + 1 ≡ number
   pub few : length before < MOST_IDS
@@ -55,7 +49,7 @@ pub record IsBadLine (bytes : List ℕ) (number : ℕ) : Type 0 where
 pub record IsTooMany (bytes : List ℕ) (number : ℕ) : Type 0 where
   pub before : List PageId
   pub behind : List ℕ
-  pub typed : AreIds before
+  pub typed : ArePages before
   pub text : ended bytes ≡ dump_text before ++ behind
   pub more : behind ≢ []
   pub place : length before + 1 ≡ number

@@ -3,7 +3,8 @@ ghost use Rattle.std.specs.Prelude.{◌≡◌, ◌<◌, ◌≤◌, ◌++◌, ◌
 ghost use Rattle.std.specs.List.{AllByRecursion};
 ghost use Rattle.page_ids.specs.declared.ids.PageId.{PageId};
 ghost use Rattle.dump_load.specs.declared.text.DumpErr.{DumpErr};
-ghost use Rattle.dump_load.specs.Text.{id_line, dump_text, ended, AreIds, IsDump, IsRefused};
+ghost use Rattle.page_ids.specs.Typed.{ArePages};
+ghost use Rattle.dump_load.specs.Text.{id_line, dump_text, ended, IsDump, IsRefused};
 ghost use Rattle.dump_load.specs.Reading.{id_of};
 
 use page_ids::numerals::{cut, number_u32};
@@ -126,7 +127,7 @@ pub fn read_dump(alloc: Global, bytes: &[u8]) -> Result<Vec<PageId>, DumpErr>
 
 /// What is printed reads back, with its last newline and without it. Does nothing; who calls it has this of every list of ids.
 pub fn a_dump_reads_back()
-    ensures whole { (ids : List PageId) → AreIds ids → length ids ≤ MOST_IDS → IsDump (dump_text ids) ids }
-    ensures cut { (ids : List PageId) (last : PageId) → AreIds (ids ++ last ∷ []) → length ids < MOST_IDS
+    ensures whole { (ids : List PageId) → ArePages ids → length ids ≤ MOST_IDS → IsDump (dump_text ids) ids }
+    ensures cut { (ids : List PageId) (last : PageId) → ArePages (ids ++ last ∷ []) → length ids < MOST_IDS
         → IsDump (dump_text ids ++ id_line last) (ids ++ last ∷ []) }
 {}

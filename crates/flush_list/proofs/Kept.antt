@@ -1,15 +1,21 @@
 -- What the view of a `Flush` tells of its list.
-use Rattle.std.proofs.Common.{◌≡◌, ◌<◌, ◌≤◌, ◌∙◌, ℕ, List, length, get_or, Some, sym, ap, subst, arith}
-use Rattle.std.specs.Prelude.{map, AllPairs}
+use Rattle.std.proofs.Common.{◌≡◌, ◌<◌, ◌≤◌, ◌∙◌, ◌+◌, ◌++◌, ◌∷◌, ℕ, List, length, get_or, Option, None, Some, sym, ap, subst, arith}
+use Rattle.std.specs.Prelude.{map, AllPairs, IfSome}
+use Rattle.std.specs.Option.{option_map}
 use Rattle.std.specs.Global.{Vec}
+use Rattle.link_lists.specs.Grid.{times}
 use Rattle.link_lists.specs.Chains.{last}
 use Rattle.link_lists.specs.IndexLists as index
 use Rattle.link_lists.specs.IndexLists.{IndexList}
-use Rattle.link_lists.proofs.Times.{last_stands}
+use Rattle.link_lists.proofs.Times.{last_stands, placed, none_before}
 use Rattle.flush_list.specs.declared.flush.Flush.TheInside.{Inside}
-use Rattle.flush_list.specs.View.{Node, View, Has, IsNew}
+use Rattle.flush_list.specs.View.{Node, View, Has, IsNew, place_of, next_up}
 use Rattle.flush_list.specs.Inside.{node_of, view_of, IsKept}
-use Rattle.flush_list.proofs.Frames.{stands, none_stands, nodes_agree}
+use Rattle.flush_list.proofs.Frames.{stands, none_stands, nodes_agree, before_is, before_place}
+
+-- the frame before another, and its place
+abbrev pub IsBefore : List Node → ℕ → Option ℕ → Type 0
+IsBefore listed f r = (r ≡ option_map (λ (x : Node). x.frame) (next_up f listed)) × IfSome r (λ n. place_of n listed + 1 ≡ place_of f listed)
 
 module _ (a : Inside) (v : View) (is : view_of a ≡ v) where
   pub listed_is : map (node_of a.oldest.items) a.list.items ≡ v.listed
@@ -29,6 +35,16 @@ module _ (a : Inside) (v : View) (is : view_of a ≡ v) where
     room = omega (arith, h.room, room_is);
     away = none_stands a.oldest.items f a.list.items (subst (λ (w : View). IsNew w f) (sym is) h).away;
   }
+
+  -- what is found before a frame
+  pub before_seen : (f : ℕ) (r : Option ℕ) → Has v f → index.IsInOrder a.list → ((front back : List ℕ) → a.list.items ≡ front ++ f ∷ back → r ≡ last front) → IsBefore v.listed f r
+  before_seen f r h order before =
+      let t = placed f a.list.items (is_in f h) in
+      let once = subst (λ (xs : List ℕ). (x : ℕ) → times x xs ≤ 1) t.2 order.once in
+      subst (λ ys. IsBefore ys f r) (ap (map (node_of a.oldest.items)) (sym t.2) ∙ listed_is) (
+        before t.0 t.1 t.2 ∙ sym (before_is a.oldest.items None f t.0 t.1 (none_before f t.0 t.1 (once f))),
+        before_place a.oldest.items f t.0 t.1 r once (before t.0 t.1 t.2),
+      )
 
 -- a list of frames as a view with the room of another one
 pub seen : (v : View) (os : List ℕ) (l : IndexList) (listed : List Node) → l.room ≡ v.room → map (node_of os) l.items ≡ listed

@@ -75,56 +75,44 @@ push_cases g f xs = elim (cases_eq f g) [
   | inr ne ↦ inr (omega (arith, times_past g f [] ne, times-append g xs (f ∷ [])))
 ]
 
-given-inside : (v : View) (f : ℕ) → IsInOrder v → IsInUse v f → is_inside v f ≡ true → IsInOrder (record v { lists = rule.given true f v.lists })
-given-inside v f h new inside = record {
-  few = h.few;
-  most = h.most;
-  full = h.full;
-  area = h.area;
-  once = λ g. elim (push_cases g f v.lists.withdrawn) [
-    | inl own ↦ let same = ap (λ k. times_on v.lists k) own.0 in omega (arith, own.1, same, new.away)
-    | inr e ↦ omega (arith, e, h.once g)
-  ];
-  there = λ g l. elim (push_cases g f v.lists.withdrawn) [
-    | inl own ↦ omega (arith, own.0, new.there)
-    | inr e ↦ h.there g (omega (arith, e, l))
-  ];
-  free = h.free;
-  withdrawn = λ g l. elim (push_cases g f v.lists.withdrawn) [
-    | inl own ↦ ap (is_inside v) own.0 ∙ inside
-    | inr e ↦ h.withdrawn g (omega (arith, e, l))
-  ];
-  closed = λ e. absurd (true≢false (sym inside ∙ inside_closed v f e));
-}
-
-given-outside : (v : View) (f : ℕ) → IsInOrder v → IsInUse v f → is_inside v f ≡ false → IsInOrder (record v { lists = rule.given false f v.lists })
-given-outside v f h new outside = record {
-  few = h.few;
-  most = h.most;
-  full = h.full;
-  area = h.area;
-  once = λ g. elim (push_cases g f v.lists.free) [
-    | inl own ↦ let same = ap (λ k. times_on v.lists k) own.0 in omega (arith, own.1, same, new.away)
-    | inr e ↦ omega (arith, e, h.once g)
-  ];
-  there = λ g l. elim (push_cases g f v.lists.free) [
-    | inl own ↦ omega (arith, own.0, new.there)
-    | inr e ↦ h.there g (omega (arith, e, l))
-  ];
-  free = λ g l. elim (push_cases g f v.lists.free) [
-    | inl own ↦ ap (is_inside v) own.0 ∙ outside
-    | inr e ↦ h.free g (omega (arith, e, l))
-  ];
-  withdrawn = h.withdrawn;
-  closed = h.closed;
-}
+-- and on both together
+given_cases : (b : Bool) (g f : ℕ) (l : FrameLists) → ((g ≡ f) × (times_on (rule.given b f l) g ≡ times_on l g + 1)) ⊎ (times_on (rule.given b f l) g ≡ times_on l g)
+given_cases true g f l = elim (push_cases g f l.withdrawn) [ inl own ↦ inl (own.0, omega (arith, own.1)) | inr e ↦ inr (omega (arith, e)) ]
+given_cases false g f l = elim (push_cases g f l.free) [ inl own ↦ inl (own.0, omega (arith, own.1)) | inr e ↦ inr (omega (arith, e)) ]
 
 pub order-given : (v : View) (f : ℕ) → IsInOrder v → IsInUse v f → IsInOrder (given f v)
 order-given v f h new = by_test (is_inside v f) refl
   where
+    free : (b : Bool) → is_inside v f ≡ b → (g : ℕ) → 0 < times g (rule.given b f v.lists).free → is_inside v g ≡ false
+    free true inside g l = h.free g l
+    free false outside g l = elim (push_cases g f v.lists.free) [ inl own ↦ ap (is_inside v) own.0 ∙ outside | inr e ↦ h.free g (omega (arith, e, l)) ]
+
+    withdrawn : (b : Bool) → is_inside v f ≡ b → (g : ℕ) → 0 < times g (rule.given b f v.lists).withdrawn → is_inside v g ≡ true
+    withdrawn true inside g l = elim (push_cases g f v.lists.withdrawn) [ inl own ↦ ap (is_inside v) own.0 ∙ inside | inr e ↦ h.withdrawn g (omega (arith, e, l)) ]
+    withdrawn false outside g l = h.withdrawn g l
+
+    closed : (b : Bool) → is_inside v f ≡ b → v.area ≡ None → (rule.given b f v.lists).withdrawn ≡ []
+    closed true inside e = absurd (true≢false (sym inside ∙ inside_closed v f e))
+    closed false outside e = h.closed e
+
     by_test : (b : Bool) → is_inside v f ≡ b → IsInOrder (record v { lists = rule.given b f v.lists })
-    by_test true e = given-inside v f h new e
-    by_test false e = given-outside v f h new e
+    by_test b is = record {
+      few = h.few;
+      most = h.most;
+      full = h.full;
+      area = h.area;
+      once = λ g. elim (given_cases b g f v.lists) [
+        | inl own ↦ let same = ap (λ k. times_on v.lists k) own.0 in omega (arith, own.1, same, new.away)
+        | inr e ↦ omega (arith, e, h.once g)
+      ];
+      there = λ g l. elim (given_cases b g f v.lists) [
+        | inl own ↦ omega (arith, own.0, new.there)
+        | inr e ↦ h.there g (omega (arith, e, l))
+      ];
+      free = free b is;
+      withdrawn = withdrawn b is;
+      closed = closed b is;
+    }
 
 pub frames-grown : (chunks frames : ℕ) → (chunks + 1) * frames ≡ chunks * frames + frames
 frames-grown chunks frames = let one : chunks + 1 ≡ suc chunks = omega arith in ap (λ n. n * frames) one ∙ suc-mul chunks frames

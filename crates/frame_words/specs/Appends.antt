@@ -3,6 +3,7 @@ use Rattle.std.specs.Prelude.{ℕ, Bool, true, false, List, [], ◌∷◌, ◌�
 use Rattle.std.specs.Option.{option_map}
 use Rattle.page_ids.specs.declared.frame_word.Word.{Word}
 use Rattle.page_ids.specs.declared.ids.PageId.{PageId}
+use Rattle.page_ids.specs.declared.limits.TheConstants.{MOST_FIXES}
 use Rattle.trail.specs.Kinds.{kind_answers}
 use Rattle.trail.specs.Calls.{held_after_kind, newest_fix}
 use Rattle.trail.specs.History.{home}
@@ -228,13 +229,13 @@ takes_fix (call.Resize bytes rounds) = false
 abbrev pub FitsRefusal : List Held → Call → Cause → Type 0
 FitsRefusal opened asked (cause.PlacesSpent mark need) = ⊤
 FitsRefusal opened asked (cause.NoSuchPage pages) = ⊤
-FitsRefusal opened asked (cause.HoldFull held) = length opened ≡ 64
-FitsRefusal opened asked (cause.Resident f) = takes_fix asked ≡ true → length opened < 64
-FitsRefusal opened asked (cause.AllFixed seen) = takes_fix asked ≡ true → length opened < 64
-FitsRefusal opened asked (cause.RedoFault before after) = takes_fix asked ≡ true → length opened < 64
-FitsRefusal opened asked (cause.DiskFault before after) = takes_fix asked ≡ true → length opened < 64
-FitsRefusal opened asked (cause.BadPage bad) = takes_fix asked ≡ true → length opened < 64
-FitsRefusal opened asked (cause.LogSpent end) = takes_fix asked ≡ true → length opened < 64
+FitsRefusal opened asked (cause.HoldFull held) = length opened ≡ MOST_FIXES
+FitsRefusal opened asked (cause.Resident f) = takes_fix asked ≡ true → length opened < MOST_FIXES
+FitsRefusal opened asked (cause.AllFixed seen) = takes_fix asked ≡ true → length opened < MOST_FIXES
+FitsRefusal opened asked (cause.RedoFault before after) = takes_fix asked ≡ true → length opened < MOST_FIXES
+FitsRefusal opened asked (cause.DiskFault before after) = takes_fix asked ≡ true → length opened < MOST_FIXES
+FitsRefusal opened asked (cause.BadPage bad) = takes_fix asked ≡ true → length opened < MOST_FIXES
+FitsRefusal opened asked (cause.LogSpent end) = takes_fix asked ≡ true → length opened < MOST_FIXES
 FitsRefusal opened asked (cause.WatchFull watches) = ⊤
 FitsRefusal opened asked cause.NoWatch = ⊤
 FitsRefusal opened asked cause.TooSmall = ⊤
@@ -251,8 +252,8 @@ FitsRefusal opened asked cause.Unheld = ⊤
 -- what each entry needs of the open fixes of the pass that has the turn
 abbrev pub FitsOpen : List Held → Kind → Type 0
 FitsOpen opened (kind.Load p f) = ⊤
-FitsOpen opened (kind.Fix p f clock now) = length opened < 64
-FitsOpen opened (kind.Create p f start end now) = length opened < 64
+FitsOpen opened (kind.Fix p f clock now) = length opened < MOST_FIXES
+FitsOpen opened (kind.Create p f start end now) = length opened < MOST_FIXES
 FitsOpen opened (kind.Put p at bytes start end) = IsSome (newest_fix opened p)
 FitsOpen opened (kind.Evict p f passed) = ⊤
 FitsOpen opened (kind.Write p lsn upto) = ⊤

@@ -1,11 +1,12 @@
 -- When each call may be made. What depends on the history or on the turn is asked only where these are told.
 use Rattle.std.specs.Prelude.{ℕ, true, false, List, [], ◌∷◌, ◌≡◌, ◌≢◌, ◌+◌, ◌<◌, ◌^◌, ◌⊎◌, Option, None, Some, IfSome, IsSome, IsSomeAnd, Contains, length}
-use Rattle.page_ids.specs.Chunks.{instance_of}
+use Rattle.page_ids.specs.Instances.{instance_of}
 use Rattle.page_ids.specs.Content.{Content}
 use Rattle.page_ids.specs.FrameWord.{fixes_of, is_latched}
 use Rattle.page_ids.specs.Size.{page_bytes}
 use Rattle.page_ids.specs.declared.frame_word.Word.{Word}
 use Rattle.page_ids.specs.declared.ids.PageId.{PageId}
+use Rattle.page_ids.specs.declared.limits.TheConstants.{CLOCK_BITS}
 use Rattle.trail.specs.History.{home, change, value}
 use Rattle.trail.specs.Trails.{mark}
 use Rattle.trail.specs.declared.event.Entry.{Entry}
@@ -48,7 +49,7 @@ abbrev pub IsUnlatched : FramesSeen → ℕ → Type 0
 IsUnlatched s f = (row_at s f).latched ≡ false
 
 -- a frame that this holder neither visits nor has latched
-pub record IsFree (s : FramesSeen) (f : ℕ) : Type 0 where
+pub record IsUntouched (s : FramesSeen) (f : ℕ) : Type 0 where
   pub inside : f < length s.rows
   pub unvisited : s.visit ≢ Some f
   pub unlatched : IsUnlatched s f
@@ -83,7 +84,7 @@ pub record MayPublish (s : FramesSeen) (f : ℕ) (p : PageId) (clock : ℕ) : Ty
   pub inside : f < length s.rows
   pub away : (row_at s f).resident ≡ false
   pub laid : IsSome (row_at s f).image
-  pub early : clock < 2 ^ 48
+  pub early : clock < 2 ^ CLOCK_BITS
   pub home_is : IfSome s.history (λ h. (home h.entries p ≡ Some f) × (clock ≡ change h.entries f))
   pub value_is : OnValue s p (λ v. (row_at s f).image ≡ Some v)
 
@@ -99,13 +100,13 @@ pub record MayUnlatch (s : FramesSeen) (f : ℕ) : Type 0 where
       → IfSome s.history (λ h. IsSome (row_at s f).image × ((row_at s f).clock ≡ change h.entries f))
 
 -- nobody else can reach the image of the frame
-pub record IsReached (s : FramesSeen) (f : ℕ) : Type 0 where
+pub record IsVisited (s : FramesSeen) (f : ℕ) : Type 0 where
   pub inside : f < length s.rows
   pub alone : ((row_at s f).resident ≡ false) ⊎ ((row_at s f).latched ≡ true)
 
 -- there is no image yet, and this one is of the pool's page size; in a resident frame it is the page's value
 pub record MayLay (s : FramesSeen) (f : ℕ) (content : Content) : Type 0 where
-  pub reached : IsReached s f
+  pub reached : IsVisited s f
   pub empty : (row_at s f).image ≡ None
   pub sized : IfSome s.history (λ h. length content.bytes ≡ page_bytes h.config.page)
   pub valued : (row_at s f).resident ≡ true → OnValue s (row_at s f).page (λ v. v ≡ Some content)

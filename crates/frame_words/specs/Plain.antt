@@ -3,6 +3,7 @@ use Rattle.std.specs.Prelude.{ℕ, Bool, true, false, List, ◌+◌, ◌-◌, �
 use Rattle.std.specs.Option.{option_map, option_map_or}
 use Rattle.page_ids.specs.Content.{Content}
 use Rattle.page_ids.specs.declared.ids.PageId.{PageId}
+use Rattle.page_ids.specs.declared.limits.TheConstants.{FIX_BITS}
 use Rattle.frame_words.specs.Rows.{Row, new_row, held_row}
 use Rattle.frame_words.specs.Seen.{FramesSeen, visits_of}
 
@@ -33,14 +34,14 @@ held_of r = option_map_or (λ held. held) r.held 0
 
 -- so many fixes that are no visits are told, and with the visits they fit a word
 abbrev pub Fits : Option ℕ → ℕ → Type 0
-Fits held visits = IsSomeAnd held (λ n. n + visits < 2 ^ 14)
+Fits held visits = IsSomeAnd held (λ n. n + visits < 2 ^ FIX_BITS)
 
 abbrev pub FitPlain : List Row → Option ℕ → Type 0
 FitPlain rows visit = (f : ℕ) → f < length rows → Fits (slice_index_or rows f new_row).held (visits_of visit f)
 
 -- for how many more fixes there is room in the word of a frame
 abbrev pub room_of : Plain → ℕ → ℕ
-room_of p f = 2 ^ 14 - 1 - held_of (slice_index_or p.rows f new_row)
+room_of p f = 2 ^ FIX_BITS - 1 - held_of (slice_index_or p.rows f new_row)
 
 -- the visit of the frame becomes a held fix
 abbrev pub held_at : Plain → ℕ → Plain

@@ -1,5 +1,6 @@
 //! One frame of one thread.
 ghost use Rattle.std.specs.Prelude.{◌≡◌, ◌<◌, ◌+◌, ◌^◌, true, Some, None, IsSome, MatchOption};
+ghost use Rattle.page_ids.specs.declared.limits.TheConstants.{CLOCK_BITS};
 ghost use Rattle.frame_words.specs.Rows.{new_row, claimed_row, published_row, latched_row, unlatched_row, stamped_row, lifted_row, laid_row, held_row, IsFound};
 ghost use Rattle.frame_words.specs.Plain.{Fits, held_of, is_told, unheld_row};
 
@@ -19,6 +20,7 @@ pub(crate) struct Frame {
 
 impl Model for Frame {
     ghost use Rattle.std.specs.Prelude.{◌<◌, ◌^◌};
+    ghost use Rattle.page_ids.specs.declared.limits.TheConstants.{CLOCK_BITS};
     ghost use Rattle.frame_words.specs.Rows.{Row};
     ghost use Rattle.frame_words.specs.Plain.{row_of};
 
@@ -26,7 +28,7 @@ impl Model for Frame {
 
     ghost view = { λ f. row_of f.resident f.clock f.page f.latched f.image f.held };
 
-    ghost invariant = { λ f. f.clock < 2 ^ 48 };
+    ghost invariant = { λ f. f.clock < 2 ^ CLOCK_BITS };
 }
 
 impl Frame {
@@ -63,7 +65,7 @@ impl Frame {
 
     /// The page is resident at this clock.
     pub(crate) fn publish(&mut self, page: PageId, clock: u64)
-        requires { clock < 2 ^ 48 }
+        requires { clock < 2 ^ CLOCK_BITS }
         ensures { self.new ≡ published_row self.old page clock }
     {
         self.resident = true;
@@ -89,7 +91,7 @@ impl Frame {
 
     /// Sets the clock.
     pub(crate) fn stamp(&mut self, clock: u64)
-        requires { clock < 2 ^ 48 }
+        requires { clock < 2 ^ CLOCK_BITS }
         ensures { self.new ≡ stamped_row self.old clock }
     {
         self.clock = clock;

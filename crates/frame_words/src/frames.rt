@@ -6,7 +6,7 @@ ghost use Rattle.trail.specs.History.{change};
 ghost use Rattle.frame_words.specs.Rows.{claimed_row, published_row, latched_row, unlatched_row, stamped_row, lifted_row, laid_row};
 ghost use Rattle.frame_words.specs.Seen.{FramesSeen, row_at, with_row, Finds, noted, visited, left, is_owed, KeepsRoom};
 ghost use Rattle.frame_words.specs.Appends.{appended, fixed_frame};
-ghost use Rattle.frame_words.specs.Conditions.{MayAppend, IsUnlatched, IsFree, IsSteady, IsUncovered, FindsUnfixed, FindsUnlatched, MayPublish, IsLatched, MayUnlatch, IsReached, MayLay};
+ghost use Rattle.frame_words.specs.Conditions.{MayAppend, IsUnlatched, IsUntouched, IsSteady, IsUncovered, FindsUnfixed, FindsUnlatched, MayPublish, IsLatched, MayUnlatch, IsVisited, MayLay};
 
 use page_ids::{Image, PageId, Word};
 use trail::Entry;
@@ -19,12 +19,13 @@ use trail::Entry;
 /// the image's content.
 pub trait Frames {
     ghost use Rattle.std.specs.Prelude.{◌≡◌, ◌<◌, ◌≤◌, ◌+◌, ◌^◌, ℕ, false, true, None, Some, Option, OnOk, IfErr, IfSome, IsSome, length};
+    ghost use Rattle.page_ids.specs.declared.limits.TheConstants.{CLOCK_BITS};
     ghost use Rattle.page_ids.specs.FrameWord.{fixes_of, is_latched};
     ghost use Rattle.trail.specs.History.{change};
     ghost use Rattle.frame_words.specs.Rows.{claimed_row, published_row, latched_row, unlatched_row, stamped_row, lifted_row, laid_row};
     ghost use Rattle.frame_words.specs.Seen.{FramesSeen, row_at, with_row, Finds, noted, visited, left, is_owed, KeepsRoom};
     ghost use Rattle.frame_words.specs.Appends.{appended, fixed_frame};
-    ghost use Rattle.frame_words.specs.Conditions.{MayAppend, IsUnlatched, IsFree, IsSteady, IsUncovered, FindsUnfixed, FindsUnlatched, MayPublish, IsLatched, MayUnlatch, IsReached, MayLay};
+    ghost use Rattle.frame_words.specs.Conditions.{MayAppend, IsUnlatched, IsUntouched, IsSteady, IsUncovered, FindsUnfixed, FindsUnlatched, MayPublish, IsLatched, MayUnlatch, IsVisited, MayLay};
     ghost use Rattle.page_ids.specs.Content.{Content};
 
     ghost seen: { Self → FramesSeen };
@@ -44,7 +45,7 @@ pub trait Frames {
 
     /// The word of a frame.
     fn look(&mut self, frame: u32) -> Word
-        requires free { IsFree (seen self.old) frame }
+        requires free { IsUntouched (seen self.old) frame }
         requires steady { IsSteady (seen self.old) frame }
         ensures word { Finds (seen self.old) frame result }
         ensures seen { seen self.new ≡ noted (seen self.old) frame result }
@@ -53,7 +54,7 @@ pub trait Frames {
     /// Takes the page's frame for this holder alone: from then on it isn't resident, and keeps its clock. It is refused exactly where the
     /// word found has fixes.
     fn claim(&mut self, frame: u32) -> Result<(), Word>
-        requires free { IsFree (seen self.old) frame }
+        requires free { IsUntouched (seen self.old) frame }
         requires resident { (row_at (seen self.old) frame).resident ≡ true }
         ensures ok { OnOk result ((image : Option (Option Content)) × IsUncovered (seen self.old) frame image
             × (seen self.new ≡ with_row (seen self.old) frame (claimed_row (row_at (seen self.old) frame) image))) }
@@ -101,7 +102,7 @@ pub trait Frames {
     /// Sets the clock of a frame that is latched.
     fn stamp(&mut self, frame: u32, clock: u64)
         requires latch { IsLatched (seen self.old) frame }
-        requires early { clock < 2 ^ 48 }
+        requires early { clock < 2 ^ CLOCK_BITS }
         requires changed { IfSome (seen self.old).history (λ h. clock ≡ change h.entries frame) }
         ensures seen { seen self.new ≡ with_row (seen self.old) frame (stamped_row (row_at (seen self.old) frame) clock) }
         ensures room { KeepsRoom (room self.old) (room self.new) };
@@ -114,7 +115,7 @@ pub trait Frames {
 
     /// Takes the image out of the frame.
     fn lift(&mut self, frame: u32) -> Image
-        requires reached { IsReached (seen self.old) frame }
+        requires reached { IsVisited (seen self.old) frame }
         requires there { IsSome (row_at (seen self.old) frame).image }
         ensures image { IfSome (row_at (seen self.old) frame).image (λ told. IfSome told (λ content. result ≡ content)) }
         ensures seen { seen self.new ≡ with_row (seen self.old) frame (lifted_row (row_at (seen self.old) frame)) }

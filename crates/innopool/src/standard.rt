@@ -43,6 +43,17 @@ fn write_some<W: Write>(writer: &mut W, piece: &[u8]) -> io::Result<usize>
     Err(io::Error::from(ErrorKind::Interrupted))
 }
 
+/// Hands on what was written, and tries again where a signal came in between.
+fn flush_all<W: Write>(writer: &mut W) -> io::Result<()> {
+    for _ in 0..TRIES {
+        match writer.flush() {
+            Err(error) if error.kind() == ErrorKind::Interrupted => (),
+            answer => return answer,
+        }
+    }
+    Err(io::Error::from(ErrorKind::Interrupted))
+}
+
 /// A reader as a source. Tells no content.
 #[derive(Drop)]
 pub struct InputStream<R: Read + Drop> {
@@ -106,7 +117,7 @@ impl<W: Write + Drop> OutputStream<W> {
     {
         let most = piece.len().min(PIECE);
         let n = write_some(&mut self.writer, &piece[..most])?;
-        self.writer.flush()?;
+        flush_all(&mut self.writer)?;
         Ok(n)
     }
 }

@@ -1,6 +1,6 @@
 -- The lists stay those of the history as entries come.
-use Rattle.std.proofs.Common.{◌≡◌, ◌≢◌, ◌∙◌, ◌==◌, ◌+◌, ◌<◌, ◌≤◌, ◌++◌, ℕ, Bool, true, false, not, cond, List, [], ◌∷◌, length, set, drop, take, reverse, Option, Some, None, refl, sym, ap, subst, arith, inl, inr, eq-eqb}
-use Rattle.std.specs.Option.{option_map, option_map_or}
+use Rattle.std.proofs.Common.{◌≡◌, ◌≢◌, ◌∙◌, ◌==◌, ◌+◌, ◌<◌, ◌≤◌, ◌++◌, ℕ, Bool, true, false, not, cond, List, [], ◌∷◌, length, filter, set, drop, take, reverse, Option, Some, None, refl, sym, ap, subst, arith, inl, inr, eq-eqb}
+use Rattle.std.specs.Option.{option_map_or, option_to_list}
 use Rattle.std.proofs.lemmas.List.{reverse-append, get_or-set_same, get_or-set_other, length-set}
 use Rattle.std.proofs.lemmas.Bool.{cases_eq}
 use Rattle.page_ids.specs.Midpoint.{Numbers, Order, numbers_of, read_in, touch, evict}
@@ -18,20 +18,21 @@ use Rattle.trail.specs.declared.event.Kind.{Kind}
 use Rattle.trail.specs.declared.event.Kind.TheVariants as kind
 use Rattle.trail.specs.Trails.{mark}
 use Rattle.trail.specs.History.{home, home_after}
-use Rattle.trail.specs.Book.{Book, Hand, book, book_after, give_next, is_late, without, front, frame_in_turn, use_frame}
+use Rattle.trail.specs.declared.event.Hand.{Hand}
+use Rattle.trail.specs.Book.{Book, book, book_after, first_in, give, give_next, is_holder, is_late, without, front, frame_in_turn, use_frame}
 use Rattle.trail.specs.Dirt.{dirty, dirty_after, is_dirty, log_end, log_end_after}
 use Rattle.trail.specs.Order.{order, order_after}
 use Rattle.instance_lists.specs.Ledger.{IsVacant}
-use Rattle.instance_lists.specs.KeptLists.{AreKept, KeepsHomes, KeepsBook, KeepsDirty, Absent, AreFrames, in_turn, plain_book, page_in, is_quiet, AreOthersUsed, newest_in, after_change, after_write}
+use Rattle.instance_lists.specs.KeptLists.{AreKept, KeepsHomes, KeepsBook, KeepsDirty, Absent, AreFrames, in_turn, turned, own_hand, others_hand, plain_book, page_in, is_quiet, AreOthersUsed, newest_in, after_change, after_write}
 use Rattle.instance_lists.proofs.Basics.{some_same, none_some}
 use Rattle.instance_lists.proofs.Dirt.{no_way, same_self, same_is, same_turned}
 use Rattle.instance_lists.proofs.ListsFlush.{dirt_on, dirt_load, dirt_evict, dirt_put, dirt_write, dirt_write_away}
 use Rattle.instance_lists.proofs.ListsOrder.{order_on, order_fix, order_load, order_evict}
 
 -- The frames in turn.
-pub front_turn : (hand : Option ℕ) (free : List ℕ) → option_map_or (λ (f : ℕ). Some f) hand (front free) ≡ front (in_turn hand free)
-front_turn None free = refl
-front_turn (Some f) free = refl
+first_turn : (hand : Option Hand) (free : List ℕ) → first_in (option_to_list hand) free ≡ front (in_turn hand free)
+first_turn None free = refl
+first_turn (Some x) free = refl
 
 pub front_is : (l : List ℕ) (f : ℕ) → front l ≡ Some f → l ≡ f ∷ drop 1 l
 front_is [] f e = absurd (none_some f e)
@@ -41,9 +42,9 @@ pub front_none : (l : List ℕ) → front l ≡ None → l ≡ []
 front_none [] e = refl
 front_none (g ∷ gs) e = absurd (none_some g (sym e))
 
-pub turn_empty : (hand : Option ℕ) (free : List ℕ) → in_turn hand free ≡ [] → (hand ≡ None) × (free ≡ [])
+pub turn_empty : (hand : Option Hand) (free : List ℕ) → in_turn hand free ≡ [] → (hand ≡ None) × (free ≡ [])
 turn_empty None free e = (refl, e)
-turn_empty (Some f) free e = absurd (cc)
+turn_empty (Some x) free e = absurd (cc)
 
 without_absent : (f : ℕ) (l : List ℕ) → Absent f l → without f l ≡ l
 without_absent f [] away = refl
@@ -53,15 +54,22 @@ without_absent f (g ∷ gs) away = elim (cases_eq f g) [
 ]
 
 -- what is left of the free frames as the next one is taken
-without_next : (hand : Option ℕ) (free : List ℕ) (f : ℕ) (rest : List ℕ) → in_turn hand free ≡ f ∷ rest → Absent f rest → without f free ≡ rest
+without_next : (hand : Option Hand) (free : List ℕ) (f : ℕ) (rest : List ℕ) → in_turn hand free ≡ f ∷ rest → Absent f rest → without f free ≡ rest
 without_next None [] f rest e away = absurd (cc)
 without_next None (g ∷ gs) f rest e away =
     let here : g ≡ f = cc in
     let others : gs ≡ rest = cc in
     ap (λ (b : Bool). cond b gs (g ∷ without f gs)) (eq-eqb f g (sym here)) ∙ others
-without_next (Some g) free f rest e away =
+without_next (Some x) free f rest e away =
     let others : free ≡ rest = cc in
     ap (without f) others ∙ without_absent f rest away
+
+-- and of the one in hand
+used_hand : (hand : Option Hand) (free : List ℕ) (f : ℕ) (rest : List ℕ) → in_turn hand free ≡ f ∷ rest → filter (λ (x : Hand). not (x.frame == f)) (option_to_list hand) ≡ []
+used_hand None free f rest e = refl
+used_hand (Some x) free f rest e =
+    let here : x.frame ≡ f = cc in
+    ap (λ (b : Bool). cond (not b) (x ∷ []) []) (eq-eqb x.frame f here)
 
 absent_last : (f g : ℕ) (fs : List ℕ) → f ≢ g → Absent f fs → Absent f (fs ++ g ∷ [])
 absent_last f g [] ne a = (ne, tt)
@@ -80,22 +88,14 @@ length-last [] g = omega arith
 length-last (x ∷ fs) g = let rest = length-last fs g in omega (arith, rest)
 
 -- who is taken has no page
-pub vacant_from : (c : Config) (h : List Entry) (free : List ℕ) (hand : Option ℕ) (f : ℕ) (rest : List ℕ) → KeepsBook c h free hand → in_turn hand free ≡ f ∷ rest → IsVacant h f
+pub vacant_from : (c : Config) (h : List Entry) (free : List ℕ) (hand : Option Hand) (f : ℕ) (rest : List ℕ) → KeepsBook c h free hand → in_turn hand free ≡ f ∷ rest → IsVacant h f
 vacant_from c h free hand f rest k e p here =
     let away : Absent f (f ∷ rest) = subst (λ (l : List ℕ). Absent f l) e (k.taken p f here) in
     away.0 refl
 
-owned_turn : (owned : Option Hand) (free : List ℕ) → option_map_or (λ (x : Hand). Some x.frame) owned (front free) ≡ front (in_turn (option_map (λ (x : Hand). x.frame) owned) free)
-owned_turn None free = refl
-owned_turn (Some x) free = refl
-
-no_owner : (owned : Option Hand) → option_map (λ (x : Hand). x.frame) owned ≡ None → owned ≡ None
-no_owner None e = refl
-no_owner (Some x) e = absurd (cc)
-
 -- the next frame is the first in turn
-pub next_is : (c : Config) (h : List Entry) (free : List ℕ) (hand : Option ℕ) → KeepsBook c h free hand → frame_in_turn (book c h) ≡ front (in_turn hand free)
-next_is c h free hand k = ap frame_in_turn k.book_is ∙ owned_turn k.owned free ∙ ap (λ (o : Option ℕ). front (in_turn o free)) k.hand_is
+pub next_is : (c : Config) (h : List Entry) (free : List ℕ) (hand : Option Hand) → KeepsBook c h free hand → frame_in_turn (book c h) ≡ front (in_turn hand free)
+next_is c h free hand k = ap frame_in_turn k.book_is ∙ first_turn hand free
 
 -- Homes.
 pub homes_on : (c : Config) (h new : List Entry) (homes : PageId → Option ℕ) (tenants : List PageId) → ((p : PageId) → home new p ≡ home h p) → KeepsHomes c h homes tenants → KeepsHomes c new homes tenants
@@ -144,24 +144,22 @@ homes_evict c h new homes less tenants p after grown k = record {
     was q g false here = here
 
 -- The book.
-pub book_on : (c : Config) (h new : List Entry) (free : List ℕ) (hand : Option ℕ) → ((p : PageId) → home new p ≡ home h p) → book c new ≡ book c h → KeepsBook c h free hand → KeepsBook c new free hand
+pub book_on : (c : Config) (h new : List Entry) (free : List ℕ) (hand : Option Hand) → ((p : PageId) → home new p ≡ home h p) → book c new ≡ book c h → KeepsBook c h free hand → KeepsBook c new free hand
 book_on c h new free hand same stays k = record {
-  owned = k.owned;
-  hand_is = k.hand_is;
   book_is = stays ∙ k.book_is;
   distinct = k.distinct;
   taken = λ p f here. k.taken p f (sym (same p) ∙ here);
 }
 
-book_load : (c : Config) (h new : List Entry) (free rest : List ℕ) (hand : Option ℕ) (p : PageId) (f : ℕ)
+book_load : (c : Config) (h new : List Entry) (free rest : List ℕ) (hand : Option Hand) (p : PageId) (f : ℕ)
     → ((q : PageId) → home new q ≡ cond (same_page p q) (Some f) (home h q)) → book c new ≡ use_frame f (book c h) → in_turn hand free ≡ f ∷ rest
     → KeepsBook c h free hand → KeepsBook c new rest None
 book_load c h new free rest hand p f after used turn k =
     let frames : AreFrames c.frames (f ∷ rest) = subst (λ (l : List ℕ). AreFrames c.frames l) turn k.distinct in
     record {
-      owned = None;
-      hand_is = refl;
-      book_is = used ∙ ap (use_frame f) k.book_is ∙ ap (λ (l : List ℕ). plain_book c l None) (without_next hand free f rest turn frames.1);
+      book_is = used ∙ ap (use_frame f) k.book_is
+          ∙ ap (λ (l : List ℕ). plain_book c l (filter (λ (x : Hand). not (x.frame == f)) (option_to_list hand))) (without_next hand free f rest turn frames.1)
+          ∙ ap (plain_book c rest) (used_hand hand free f rest turn);
       distinct = frames.2;
       taken = λ q g here. taken q g frames.1 (same_page p q) (sym (after q) ∙ here);
     }
@@ -170,13 +168,12 @@ book_load c h new free rest hand p f after used turn k =
     taken q g away true here = subst (λ (m : ℕ). Absent m rest) (some_same f g here) away
     taken q g away false here = let all : Absent g (f ∷ rest) = subst (λ (l : List ℕ). Absent g l) turn (k.taken q g here) in all.1
 
-book_evict : (c : Config) (h new : List Entry) (homes : PageId → Option ℕ) (tenants : List PageId) (free : List ℕ) (hand : Option ℕ) (e : Entry) (p : PageId) (f : ℕ) (passed : List (ℕ × Word))
+book_evict : (c : Config) (h new : List Entry) (homes : PageId → Option ℕ) (tenants : List PageId) (free : List ℕ) (hand : Option Hand) (e : Entry) (p : PageId) (f : ℕ) (passed : List (ℕ × Word))
     → ((q : PageId) → home new q ≡ cond (same_page p q) None (home h q)) → book c new ≡ book_after c.frames e (kind.Evict p f passed) (book c h) → in_turn hand free ≡ [] → home h p ≡ Some f
-    → KeepsHomes c h homes tenants → KeepsBook c h free hand → KeepsBook c new free (Some f)
+    → KeepsHomes c h homes tenants → KeepsBook c h free hand → KeepsBook c new free (Some (record { frame = f; caller = e.caller; number = e.number }))
 book_evict c h new homes tenants free hand e p f passed after used turn here homed k = record {
-  owned = Some (record { frame = f; caller = e.caller; number = e.number });
-  hand_is = refl;
-  book_is = used ∙ ap (book_after c.frames e (kind.Evict p f passed)) k.book_is;
+  book_is = used ∙ ap (book_after c.frames e (kind.Evict p f passed)) k.book_is
+      ∙ ap (λ (o : Option Hand). plain_book c free (record { frame = f; caller = e.caller; number = e.number } ∷ option_to_list o)) none.0;
   distinct = subst (λ (l : List ℕ). AreFrames c.frames (f ∷ l)) (sym none.1) (homed.housed p f here, tt, tt);
   taken = λ q g there. subst (λ (l : List ℕ). Absent g (f ∷ l)) (sym none.1) (away q g (same_page p q) refl (sym (after q) ∙ there), tt);
 }
@@ -190,38 +187,73 @@ book_evict c h new homes tenants free hand e p f passed after used turn here hom
         let one : p ≡ q = sym (homed.tenants_are p f here) ∙ ap (page_in tenants) (sym e) ∙ homed.tenants_are q g there in
         no_way (sym (ap (same_page p) (sym one) ∙ same_self p) ∙ same)
 
--- a refusal behind its frame: the first frame in turn goes to the back of the free ones
-book_late : (c : Config) (h new : List Entry) (free : List ℕ) (hand : Option ℕ) → ((p : PageId) → home new p ≡ home h p) → book c new ≡ give_next c.frames (book c h)
-    → KeepsBook c h free hand → KeepsBook c new (drop 1 (in_turn hand free) ++ take 1 (in_turn hand free)) None
-book_late c h new free hand same gave k = by_turn (in_turn hand free) refl
+-- frames in another order
+record AreTurned (old new : List ℕ) : Type 0 where
+  pub frames : (n : ℕ) → AreFrames n old → AreFrames n new
+  pub away : (f : ℕ) → Absent f old → Absent f new
+  pub back : (f : ℕ) → Absent f new → Absent f old
+  pub long : length new ≡ length old
+
+turned_round : (l : List ℕ) → AreTurned l (turned l)
+turned_round [] = record { frames = λ n fs. fs; away = λ f a. a; back = λ f a. a; long = refl }
+turned_round (g ∷ rest) = record {
+  frames = λ n fs. frames_last n g rest fs.0 fs.1 fs.2;
+  away = λ f a. absent_last f g rest a.0 a.1;
+  back = λ f a. absent_before_last f g rest a;
+  long = let last = length-last rest g in omega (arith, last);
+}
+
+turned_behind : (f : ℕ) (old new : List ℕ) → AreTurned old new → AreTurned (f ∷ old) (f ∷ new)
+turned_behind f old new t = record {
+  frames = λ n fs. (fs.0, t.away f fs.1, t.frames n fs.2);
+  away = λ g a. (a.0, t.away g a.1);
+  back = λ g a. (a.0, t.back g a.1);
+  long = omega (arith, t.long);
+}
+
+turned_frames : (caller number : ℕ) (hand : Option Hand) (free : List ℕ) → AreTurned (in_turn hand free) (in_turn (others_hand caller number hand) (turned (in_turn (own_hand caller number hand) free)))
+turned_frames caller number None free = turned_round free
+turned_frames caller number (Some x) free = cases (is_holder caller number x)
   where
-    given : (l : List ℕ) → in_turn hand free ≡ l → AreFrames c.frames l → give_next c.frames (plain_book c free k.owned) ≡ plain_book c (drop 1 l ++ take 1 l) None
-    given [] turn frames =
-        let none = turn_empty hand free turn in
-        ap (λ (o : Option Hand). give_next c.frames (plain_book c free o)) (no_owner k.owned (k.hand_is ∙ none.0)) ∙ ap (λ (l : List ℕ). give_next c.frames (plain_book c l None)) none.1
-    given (f ∷ rest) turn frames =
-        let next : frame_in_turn (plain_book c free k.owned) ≡ Some f = owned_turn k.owned free ∙ ap (λ (o : Option ℕ). front (in_turn o free)) k.hand_is ∙ ap front turn in
-        ap (λ (o : Option ℕ). option_map_or (λ f. Rattle.trail.specs.Book.give c.frames f (plain_book c free k.owned)) o (plain_book c free k.owned)) next
-        ∙ ap (λ (l : List ℕ). plain_book c (l ++ f ∷ []) None) (without_next hand free f rest turn frames.1)
+    cases : (b : Bool) → AreTurned (x.frame ∷ free) (in_turn (cond b None (Some x)) (turned (in_turn (cond b (Some x) None) free)))
+    cases true = turned_round (x.frame ∷ free)
+    cases false = turned_behind x.frame free (turned free) (turned_round free)
 
-    turned : (l : List ℕ) → AreFrames c.frames l → AreFrames c.frames (drop 1 l ++ take 1 l)
-    turned [] frames = tt
-    turned (f ∷ rest) frames = frames_last c.frames f rest frames.0 frames.1 frames.2
+-- the frame at the front goes to the back of the free ones
+given_front : (c : Config) (hands : List Hand) (free : List ℕ) → ((g : ℕ) (gs : List ℕ) → free ≡ g ∷ gs → filter (λ (x : Hand). not (x.frame == g)) hands ≡ hands)
+    → option_map_or (λ f. give c.frames f (plain_book c free hands)) (front free) (plain_book c free hands) ≡ plain_book c (turned free) hands
+given_front c hands [] others = refl
+given_front c hands (g ∷ gs) others =
+    ap (λ (b : Bool). plain_book c (cond b gs (g ∷ without g gs) ++ g ∷ []) (filter (λ (x : Hand). not (x.frame == g)) hands)) (eq-eqb g g refl)
+    ∙ ap (plain_book c (gs ++ g ∷ [])) (others g gs refl)
 
-    away : (g : ℕ) (l : List ℕ) → Absent g l → Absent g (drop 1 l ++ take 1 l)
-    away g [] a = tt
-    away g (f ∷ rest) a = absent_last g f rest a.0 a.1
+-- a call that was refused gives its frame back, and leaves the one in another's hand
+given_is : (c : Config) (free : List ℕ) (hand : Option Hand) (caller number : ℕ) → AreFrames c.frames (in_turn hand free)
+    → give_next c.frames caller number (plain_book c free (option_to_list hand)) ≡ plain_book c (turned (in_turn (own_hand caller number hand) free)) (option_to_list (others_hand caller number hand))
+given_is c free None caller number frames = given_front c [] free (λ g gs is. refl)
+given_is c free (Some x) caller number frames = cases (is_holder caller number x)
+  where
+    others : (g : ℕ) (gs : List ℕ) → free ≡ g ∷ gs → filter (λ (x : Hand). not (x.frame == g)) (x ∷ []) ≡ x ∷ []
+    others g gs is =
+        let away : Absent x.frame (g ∷ gs) = subst (λ (l : List ℕ). Absent x.frame l) is frames.1 in
+        ap (λ (t : Bool). cond (not t) (x ∷ []) []) (Rattle.std.proofs.lemmas.Bool.ne_eqb x.frame g away.0)
 
-    by_turn : (l : List ℕ) → in_turn hand free ≡ l → KeepsBook c new (drop 1 l ++ take 1 l) None
-    by_turn l turn =
-        let frames : AreFrames c.frames l = subst (λ (l : List ℕ). AreFrames c.frames l) turn k.distinct in
-        record {
-          owned = None;
-          hand_is = refl;
-          book_is = gave ∙ ap (give_next c.frames) k.book_is ∙ given l turn frames;
-          distinct = turned l frames;
-          taken = λ p g here. away g l (subst (λ (l : List ℕ). Absent g l) turn (k.taken p g (sym (same p) ∙ here)));
-        }
+    cases : (t : Bool) → option_map_or (λ f. give c.frames f (plain_book c free (x ∷ []))) (first_in (cond t (x ∷ []) []) free) (plain_book c free (x ∷ []))
+        ≡ plain_book c (turned (in_turn (cond t (Some x) None) free)) (option_to_list (cond t None (Some x)))
+    cases true =
+        ap (λ (l : List ℕ). plain_book c (l ++ x.frame ∷ []) (filter (λ (y : Hand). not (y.frame == x.frame)) (x ∷ []))) (without_absent x.frame free frames.1)
+        ∙ ap (λ (t : Bool). plain_book c (free ++ x.frame ∷ []) (cond (not t) (x ∷ []) [])) (eq-eqb x.frame x.frame refl)
+    cases false = given_front c (x ∷ []) free others
+
+book_late : (c : Config) (h new : List Entry) (free : List ℕ) (hand : Option Hand) (caller number : ℕ) → ((p : PageId) → home new p ≡ home h p) → book c new ≡ give_next c.frames caller number (book c h)
+    → KeepsBook c h free hand → KeepsBook c new (turned (in_turn (own_hand caller number hand) free)) (others_hand caller number hand)
+book_late c h new free hand caller number same gave k =
+    let turn = turned_frames caller number hand free in
+    record {
+      book_is = gave ∙ ap (give_next c.frames caller number) k.book_is ∙ given_is c free hand caller number k.distinct;
+      distinct = turn.frames c.frames k.distinct;
+      taken = λ p f here. turn.away f (k.taken p f (sym (same p) ∙ here));
+    }
 
 -- The frames that are not in turn.
 pub used_on : (c : Config) (h new : List Entry) (tenants : List PageId) (fs : List ℕ) → ((p : PageId) → home new p ≡ home h p) → AreOthersUsed c h tenants fs → AreOthersUsed c new tenants fs
@@ -255,12 +287,8 @@ used_evict c h new tenants p f free after here k = λ g inside away.
     stays g q ne true same was = absurd (ne (some_same g f (sym was ∙ sym (ap (home h) (same_is p q same)) ∙ here)))
     stays g q ne false same was = was
 
-used_late : (c : Config) (h new : List Entry) (tenants : List PageId) (fs : List ℕ) → ((p : PageId) → home new p ≡ home h p) → AreOthersUsed c h tenants fs → AreOthersUsed c new tenants (drop 1 fs ++ take 1 fs)
-used_late c h new tenants fs same k = λ f below away. same (page_in tenants f) ∙ k f below (front_too f fs away)
-  where
-    front_too : (f : ℕ) (l : List ℕ) → Absent f (drop 1 l ++ take 1 l) → Absent f l
-    front_too f [] away = tt
-    front_too f (g ∷ rest) away = absent_before_last f g rest away
+used_late : (c : Config) (h new : List Entry) (tenants : List PageId) (fs gs : List ℕ) → ((p : PageId) → home new p ≡ home h p) → AreTurned fs gs → AreOthersUsed c h tenants fs → AreOthersUsed c new tenants gs
+used_late c h new tenants fs gs same turn k = λ f below away. same (page_in tenants f) ∙ k f below (turn.back f away)
 
 -- What a quiet entry leaves.
 record IsQuiet (k : Kind) : Type 0 where
@@ -294,9 +322,9 @@ leaves (kind.WatchAt p f) quiet = record { homes = λ q b. refl; books = λ per 
 leaves (kind.Occurred p arrived) quiet = record { homes = λ q b. refl; books = λ per e b. refl; dirt = λ ds. refl; ends = λ n. refl; orders = λ n o. refl }
 leaves (kind.Unwatch p) quiet = record { homes = λ q b. refl; books = λ per e b. refl; dirt = λ ds. refl; ends = λ n. refl; orders = λ n o. refl }
 leaves (kind.Dump pct ids) quiet = record { homes = λ q b. refl; books = λ per e b. refl; dirt = λ ds. refl; ends = λ n. refl; orders = λ n o. refl }
-leaves (kind.Refused asked why) quiet = record { homes = λ q b. refl; books = λ per e b. in_time (is_late asked why) b (give_next per b) quiet; dirt = λ ds. refl; ends = λ n. refl; orders = λ n o. refl }
+leaves (kind.Refused asked why) quiet = record { homes = λ q b. refl; books = λ per e b. in_time (is_late asked why) b (give_next per e.caller e.number b) quiet; dirt = λ ds. refl; ends = λ n. refl; orders = λ n o. refl }
 
-module _ (c : Config) (h : List Entry) (homes : PageId → Option ℕ) (tenants : List PageId) (free : List ℕ) (hand : Option ℕ) (newest : List (Option ℕ)) (flush : Flush) (lru : View) (seats : ℕ)
+module _ (c : Config) (h : List Entry) (homes : PageId → Option ℕ) (tenants : List PageId) (free : List ℕ) (hand : Option Hand) (newest : List (Option ℕ)) (flush : Flush) (lru : View) (seats : ℕ)
     (k : AreKept c h homes tenants free hand newest flush lru seats) (e : Entry) (place : e.place ≡ mark c.first h + 1) where
   placed : e.place ≡ c.first + length (e ∷ h)
   placed = omega (arith, place, k.places)
@@ -392,7 +420,7 @@ module _ (c : Config) (h : List Entry) (homes : PageId → Option ℕ) (tenants 
 
   pub kept_evict : (p : PageId) (f : ℕ) (passed : List (ℕ × Word)) (less : PageId → Option ℕ) → e.kind ≡ kind.Evict p f passed → home h p ≡ Some f → is_dirty h p ≡ false → in_turn hand free ≡ []
       → ((q : PageId) → less q ≡ cond (same_page p q) None (homes q))
-      → AreKept c (e ∷ h) less tenants free (Some f) newest flush (record lru { order = evict ◌==◌ f lru.order }) seats
+      → AreKept c (e ∷ h) less tenants free (Some (record { frame = f; caller = e.caller; number = e.number })) newest flush (record lru { order = evict ◌==◌ f lru.order }) seats
   kept_evict p f passed less is here clean turn left =
       let after : (q : PageId) → home (e ∷ h) q ≡ cond (same_page p q) None (home h q) = λ q. ap (λ (x : Kind). home_after x q (home h q)) is in
       let below = k.homed.housed p f here in
@@ -410,34 +438,32 @@ module _ (c : Config) (h : List Entry) (homes : PageId → Option ℕ) (tenants 
       }
 
   pub kept_late : (asked : Call) (why : Cause) → e.kind ≡ kind.Refused asked why → is_late asked why ≡ true
-      → AreKept c (e ∷ h) homes tenants (drop 1 (in_turn hand free) ++ take 1 (in_turn hand free)) None newest flush lru seats
+      → AreKept c (e ∷ h) homes tenants (turned (in_turn (own_hand e.caller e.number hand) free)) (others_hand e.caller e.number hand) newest flush lru seats
   kept_late asked why is late =
       let same : (q : PageId) → home (e ∷ h) q ≡ home h q = λ q. ap (λ (x : Kind). home_after x q (home h q)) is in
-      let gave : book c (e ∷ h) ≡ give_next c.frames (book c h) = ap (λ (x : Kind). book_after c.frames e x (book c h)) is ∙ ap (λ (b : Bool). cond b (give_next c.frames (book c h)) (book c h)) late in
+      let gave : book c (e ∷ h) ≡ give_next c.frames e.caller e.number (book c h) =
+      ap (λ (x : Kind). book_after c.frames e x (book c h)) is ∙ ap (λ (b : Bool). cond b (give_next c.frames e.caller e.number (book c h)) (book c h)) late in
+      let turn = turned_frames e.caller e.number hand free in
       record {
         one = k.one;
         places = placed;
         homed = homes_on c h (e ∷ h) homes tenants same k.homed;
-        booked = book_late c h (e ∷ h) free hand same gave k.booked;
-        used = used_late c h (e ∷ h) tenants (in_turn hand free) same k.used;
+        booked = book_late c h (e ∷ h) free hand e.caller e.number same gave k.booked;
+        used = used_late c h (e ∷ h) tenants (in_turn hand free) _ same turn k.used;
         soiled = dirt_on c h homes tenants newest flush k.homed k.soiled (e ∷ h) same (ap (λ (x : Kind). dirty_after x (dirty h)) is) (ap (λ (x : Kind). log_end_after x (log_end h)) is);
         ordered = order_on c h homes tenants lru k.homed k.ordered e same (ap (λ (x : Kind). order_after (numbers_of c) x (order c h)) is);
         frames = k.frames;
-        seated = turned (in_turn hand free) k.seated;
+        seated = omega (arith, turn.long, k.seated);
       }
-    where
-      turned : (l : List ℕ) → length l ≤ seats → length (drop 1 l ++ take 1 l) ≤ seats
-      turned [] few = few
-      turned (f ∷ rest) few = omega (arith, few, length-last rest f)
 
 -- lists that are equal to those
-pub kept_as : (c : Config) (h new : List Entry) (homes : PageId → Option ℕ) (tenants : List PageId) (free free' : List ℕ) (hand hand' : Option ℕ) (newest newest' : List (Option ℕ)) (flush flush' : Flush) (lru lru' : View) (seats seats' : ℕ)
+pub kept_as : (c : Config) (h new : List Entry) (homes : PageId → Option ℕ) (tenants : List PageId) (free free' : List ℕ) (hand hand' : Option Hand) (newest newest' : List (Option ℕ)) (flush flush' : Flush) (lru lru' : View) (seats seats' : ℕ)
     → new ≡ h → free' ≡ free → hand' ≡ hand → newest' ≡ newest → flush' ≡ flush → lru' ≡ lru → seats' ≡ seats
     → AreKept c h homes tenants free hand newest flush lru seats → AreKept c new homes tenants free' hand' newest' flush' lru' seats'
 kept_as c h new homes tenants free free' hand hand' newest newest' flush flush' lru lru' seats seats' same frees hands marks dirt order room k =
     let H : List Entry → Type 0 = λ x. AreKept c x homes tenants free' hand' newest' flush' lru' seats' in
     let F : List ℕ → Type 0 = λ x. AreKept c h homes tenants x hand' newest' flush' lru' seats' in
-    let N : Option ℕ → Type 0 = λ x. AreKept c h homes tenants free x newest' flush' lru' seats' in
+    let N : Option Hand → Type 0 = λ x. AreKept c h homes tenants free x newest' flush' lru' seats' in
     let M : List (Option ℕ) → Type 0 = λ x. AreKept c h homes tenants free hand x flush' lru' seats' in
     let D : Flush → Type 0 = λ x. AreKept c h homes tenants free hand newest x lru' seats' in
     let L : View → Type 0 = λ x. AreKept c h homes tenants free hand newest flush x seats' in
@@ -445,12 +471,12 @@ kept_as c h new homes tenants free free' hand hand' newest newest' flush flush' 
     subst H (sym same) (subst F (sym frees) (subst N (sym hands) (subst M (sym marks) (subst D (sym dirt) (subst L (sym order) (subst S (sym room) k))))))
 
 -- The frame that is next is the first in turn, and no page's home.
-pub record ComesTo (c : Config) (h : List Entry) (free : List ℕ) (hand : Option ℕ) (f : ℕ) : Type 0 where
+pub record ComesTo (c : Config) (h : List Entry) (free : List ℕ) (hand : Option Hand) (f : ℕ) : Type 0 where
   pub turn : in_turn hand free ≡ f ∷ drop 1 (in_turn hand free)
   pub below : f < c.frames
   pub vacant : IsVacant h f
 
-pub comes_to : (c : Config) (h : List Entry) (free : List ℕ) (hand : Option ℕ) (f : ℕ) → KeepsBook c h free hand → frame_in_turn (book c h) ≡ Some f → ComesTo c h free hand f
+pub comes_to : (c : Config) (h : List Entry) (free : List ℕ) (hand : Option Hand) (f : ℕ) → KeepsBook c h free hand → frame_in_turn (book c h) ≡ Some f → ComesTo c h free hand f
 comes_to c h free hand f k next =
     let turn = front_is (in_turn hand free) f (sym (next_is c h free hand k) ∙ next) in
     let frames = subst (λ (l : List ℕ). AreFrames c.frames l) turn k.distinct in

@@ -8,6 +8,7 @@ use Rattle.page_ids.proofs.midpoint.Counts.{listed_from_count, count-read_in}
 use Rattle.midpoint_lru.specs.View.{View, Has}
 use Rattle.flush_list.specs.View.{View as Flush, IsNew}
 use Rattle.trail.specs.declared.event.Entry.{Entry}
+use Rattle.trail.specs.declared.event.Hand.{Hand}
 use Rattle.trail.specs.declared.event.Kind.{Kind}
 use Rattle.trail.specs.declared.event.Kind.TheVariants as kind
 use Rattle.trail.specs.Trails.{mark}
@@ -32,7 +33,7 @@ read_in_listed v f =
 abbrev pub as_load : Entry → PageId → ℕ → Entry
 as_load e p f = record e { kind = kind.Load p f }
 
-module _ (c : Config) (h : List Entry) (homes : PageId → Option ℕ) (tenants : List PageId) (free : List ℕ) (hand : Option ℕ) (newest : List (Option ℕ)) (flush : Flush) (lru : View) (seats : ℕ)
+module _ (c : Config) (h : List Entry) (homes : PageId → Option ℕ) (tenants : List PageId) (free : List ℕ) (hand : Option Hand) (newest : List (Option ℕ)) (flush : Flush) (lru : View) (seats : ℕ)
     (k : AreKept c h homes tenants free hand newest flush lru seats) (e : Entry) (place : e.place ≡ mark c.first h + 1)
     (p : PageId) (f : ℕ) (more : PageId → Option ℕ) (rest : List ℕ) (absent : home h p ≡ None) (turn : in_turn hand free ≡ f ∷ rest)
     (grown : (q : PageId) → more q ≡ cond (same_page p q) (Some f) (homes q)) where

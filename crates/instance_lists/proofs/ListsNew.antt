@@ -58,9 +58,7 @@ kept_new c homes tenants free newest flush lru seats one empty count free_is num
         tenant_count = count;
       };
       booked = record {
-        owned = None;
-        hand_is = refl;
-        book_is = ap (λ n. plain_book c (rising 0 n) None) all ∙ ap (λ l. plain_book c l None) (sym free_is);
+        book_is = ap (λ n. plain_book c (rising 0 n) []) all ∙ ap (λ l. plain_book c l []) (sym free_is);
         distinct = subst F (sym free_is) (frames_rising 0 c.frames c.frames (omega arith));
         taken = λ p f e. absurd (cc);
       };

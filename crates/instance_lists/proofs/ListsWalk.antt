@@ -14,6 +14,7 @@ use Rattle.page_ids.specs.declared.config.Config.{Config}
 use Rattle.midpoint_lru.specs.View.{View, Has, next_up}
 use Rattle.flush_list.specs.View.{View as Flush}
 use Rattle.trail.specs.declared.event.Entry.{Entry}
+use Rattle.trail.specs.declared.event.Hand.{Hand}
 use Rattle.trail.specs.Book.{Book, book, frame_in_turn, frames_there, is_in}
 use Rattle.trail.specs.Dirt.{dirty, log_end}
 use Rattle.trail.specs.Order.{order}
@@ -195,7 +196,7 @@ module _ (c : Config) (h : List Entry) (homes : PageId → Option ℕ) (tenants 
           (λ i d l. ap (same_page (page_in tenants (get_or lru.order.listed i d).key)) (sym (homed.tenants_are p f here)) ∙ told_apart c h homes tenants lru homed k p f here i d l)
           ∙ count_home c h homes tenants lru homed k p f here
 
-module _ (c : Config) (h : List Entry) (homes : PageId → Option ℕ) (tenants : List PageId) (free : List ℕ) (hand : Option ℕ) (newest : List (Option ℕ)) (flush : Flush) (lru : View) (seats : ℕ) (k : AreKept c h homes tenants free hand newest flush lru seats) where
+module _ (c : Config) (h : List Entry) (homes : PageId → Option ℕ) (tenants : List PageId) (free : List ℕ) (hand : Option Hand) (newest : List (Option ℕ)) (flush : Flush) (lru : View) (seats : ℕ) (k : AreKept c h homes tenants free hand newest flush lru seats) where
   alone : (p q : PageId) (f : ℕ) → home h p ≡ Some f → home h q ≡ Some f → q ≡ p
   alone p q f here there = sym (k.homed.tenants_are q f there) ∙ k.homed.tenants_are p f here
 

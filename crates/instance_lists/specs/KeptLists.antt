@@ -1,6 +1,6 @@
 -- What each list is of the history.
-use Rattle.std.specs.Prelude.{ℕ, All, Bool, true, false, not, List, [], ◌∷◌, ◌≡◌, ◌≢◌, ◌==◌, ◌+◌, ◌<◌, ◌≤◌, Option, None, Some, length, map, reverse, slice_index_or, unwrap_or, ⊤, if◌then◌else◌}
-use Rattle.std.specs.Option.{option_map, option_map_or}
+use Rattle.std.specs.Prelude.{ℕ, All, Bool, true, false, not, List, [], ◌∷◌, ◌≡◌, ◌≢◌, ◌==◌, ◌+◌, ◌++◌, ◌<◌, ◌≤◌, Option, None, Some, drop, length, map, reverse, slice_index_or, take, unwrap_or, ⊤, if◌then◌else◌}
+use Rattle.std.specs.Option.{option_map, option_map_or, option_to_list}
 use Rattle.page_ids.specs.Chunks.{chunks_of}
 use Rattle.page_ids.specs.Midpoint.{numbers_of, count_of, under, read_in, touch}
 use Rattle.page_ids.specs.declared.ids.PageId.{PageId}
@@ -9,11 +9,12 @@ use Rattle.midpoint_lru.specs.View.{View}
 use Rattle.flush_list.specs.View.{Node, View as Flush, without}
 use Rattle.trail.specs.declared.event.Dirty.{Dirty}
 use Rattle.trail.specs.declared.event.Entry.{Entry}
+use Rattle.trail.specs.declared.event.Hand.{Hand}
 use Rattle.trail.specs.declared.event.Kind.{Kind}
 use Rattle.trail.specs.declared.event.Kind.TheVariants as kind
 use Rattle.trail.specs.Trails.{mark}
 use Rattle.trail.specs.History.{home}
-use Rattle.trail.specs.Book.{Book, Hand, book, is_late}
+use Rattle.trail.specs.Book.{Book, book, is_holder, is_late}
 use Rattle.trail.specs.Dirt.{dirty, dirt_of, is_dirty, log_end}
 use Rattle.trail.specs.Order.{order}
 use Rattle.instance_lists.specs.Ledger.{IsVacant}
@@ -53,12 +54,23 @@ AreFrames n [] = ⊤
 AreFrames n (f ∷ fs) = (f < n) × Absent f fs × AreFrames n fs
 
 -- the frames in the order in which they are taken: the one in hand, then the free ones
-abbrev pub in_turn : Option ℕ → List ℕ → List ℕ
-in_turn hand free = option_map_or (λ f. f ∷ free) hand free
+abbrev pub in_turn : Option Hand → List ℕ → List ℕ
+in_turn hand free = option_map_or (λ (x : Hand). x.frame ∷ free) hand free
+
+-- the first of these at their back
+abbrev pub turned : List ℕ → List ℕ
+turned fs = drop 1 fs ++ take 1 fs
+
+-- what is in the hand of this call, and what is in another's
+abbrev pub own_hand : ℕ → ℕ → Option Hand → Option Hand
+own_hand c n hand = option_map_or (λ (x : Hand). if is_holder c n x then Some x else None) hand None
+
+abbrev pub others_hand : ℕ → ℕ → Option Hand → Option Hand
+others_hand c n hand = option_map_or (λ (x : Hand). if is_holder c n x then None else Some x) hand None
 
 -- the book of one chunk, and nothing withdrawn
-abbrev pub plain_book : Config → List ℕ → Option Hand → Book
-plain_book c free hand = record { chunks = chunks_of c; area = None; free = free; withdrawn = []; hand = hand }
+abbrev pub plain_book : Config → List ℕ → List Hand → Book
+plain_book c free hands = record { chunks = chunks_of c; area = None; free = free; withdrawn = []; hands = hands }
 
 -- the page that the frame had last
 abbrev pub page_in : List PageId → ℕ → PageId
@@ -76,10 +88,8 @@ pub record KeepsHomes (c : Config) (h : List Entry) (homes : PageId → Option �
   pub tenant_count : length tenants ≡ c.frames
 
 -- the free frames and the one in hand are those of the history, and no page's home
-pub record KeepsBook (c : Config) (h : List Entry) (free : List ℕ) (hand : Option ℕ) : Type 0 where
-  pub owned : Option Hand
-  pub hand_is : option_map (λ (x : Hand). x.frame) owned ≡ hand
-  pub book_is : book c h ≡ plain_book c free owned
+pub record KeepsBook (c : Config) (h : List Entry) (free : List ℕ) (hand : Option Hand) : Type 0 where
+  pub book_is : book c h ≡ plain_book c free (option_to_list hand)
   pub distinct : AreFrames c.frames (in_turn hand free)
   pub taken : (p : PageId) (f : ℕ) → home h p ≡ Some f → Absent f (in_turn hand free)
 
@@ -133,7 +143,7 @@ pub record KeepsOrder (c : Config) (h : List Entry) (tenants : List PageId) (lru
   pub evicts : lru.order.evicts ≤ length h
 
 -- all lists, where so many frames have room in the free list
-pub record AreKept (c : Config) (h : List Entry) (homes : PageId → Option ℕ) (tenants : List PageId) (free : List ℕ) (hand : Option ℕ) (newest : List (Option ℕ)) (flush : Flush) (lru : View) (seats : ℕ) : Type 0 where
+pub record AreKept (c : Config) (h : List Entry) (homes : PageId → Option ℕ) (tenants : List PageId) (free : List ℕ) (hand : Option Hand) (newest : List (Option ℕ)) (flush : Flush) (lru : View) (seats : ℕ) : Type 0 where
   pub one : chunks_of c ≡ 1
   pub places : mark c.first h ≡ c.first + length h
   pub homed : KeepsHomes c h homes tenants

@@ -75,7 +75,7 @@ MayCome l (kind.Dump pct ids) = ⊥
 MayCome l (kind.Refused asked why) = ⊤
 
 -- one entry came, and no memory was taken
-pub record IsFollowed (old new : Ledger) (e : Entry) : Type 0 where
+pub record IsGrownBy (old new : Ledger) (e : Entry) : Type 0 where
   pub config : new.config ≡ old.config
   pub history : new.history ≡ e ∷ old.history
   pub room : old.room ≤ new.room + 1

@@ -2,13 +2,14 @@
 ghost use Rattle.std.specs.Prelude.{List, ℕ, ◌≡◌, ◌<◌, ◌≤◌, ◌+◌, ◌^◌, [], ◌∷◌, Some, None, OnOk, IfOk, IfSome, IsSome, length, reverse, true, false};
 ghost use Rattle.page_ids.specs.declared.ids.PageId.{PageId};
 ghost use Rattle.page_ids.specs.declared.frame_word.Word.{Word};
+ghost use Rattle.page_ids.specs.declared.limits.TheConstants.{CLOCK_BITS};
 ghost use Rattle.trail.specs.Trails.{mark};
 ghost use Rattle.trail.specs.History.{home};
 ghost use Rattle.trail.specs.Book.{book, frame_in_turn, is_late};
 ghost use Rattle.trail.specs.Dirt.{dirty, is_dirty, log_end};
 ghost use Rattle.trail.specs.Victim.{from_the_tail};
 ghost use Rattle.trail.specs.declared.event.Dirty.{Dirty};
-ghost use Rattle.instance_lists.specs.Ledger.{IsOneChunk, IsVacant, IsArrival, IsMaking, IsChange, IsDeparture, MayCome, IsFollowed};
+ghost use Rattle.instance_lists.specs.Ledger.{IsOneChunk, IsVacant, IsArrival, IsMaking, IsChange, IsDeparture, MayCome, IsGrownBy};
 ghost use Rattle.instance_lists.specs.KeptLists.{is_quiet};
 ghost use Rattle.instance_lists.specs.Walk.{next_home, part_of, first_tried, AreOrderly};
 
@@ -21,7 +22,7 @@ use page_ids::{Config, OutOfMemory, PageId};
 use std::alloc::{AllocError, Global};
 use std::collections::VecDeque;
 use std::marker::Model;
-use trail::{Call, Cause, Dirty, Entry, Kind};
+use trail::{Call, Cause, Dirty, Entry, Hand, Kind};
 
 /// An instance's history, and what it gives: homes, free frames, the LRU list, dirty pages.
 ///
@@ -38,7 +39,7 @@ pub struct InstanceLists {
     /// The frames without a page, in the order in which they are taken.
     free: VecDeque<u32>,
     /// The frame of a victim that its call has not used yet.
-    hand: Option<u32>,
+    hand: Option<Hand>,
     /// The frames of the pages that were changed since they were last written, the newest first change at the head.
     flush: Flush,
     /// The LSN behind the last change of the page in each frame; none where that page is clean.
@@ -148,7 +149,7 @@ impl InstanceLists {
         ensures orderly { AreOrderly self.now.config self.now.history }
     {
         match self.hand {
-            Some(frame) => Some(frame),
+            Some(held) => Some(held.frame),
             None => self.free.front().copied(),
         }
     }
@@ -262,7 +263,7 @@ impl InstanceLists {
         requires place { entry.place ≡ mark self.old.config.first self.old.history + 1 }
         requires room { 0 < self.old.room }
         requires quiet { is_quiet entry.kind ≡ true }
-        ensures { IsFollowed self.old self.new entry }
+        ensures { IsGrownBy self.old self.new entry }
     {
         push_kept(&mut self.history, entry);
     }
@@ -275,7 +276,7 @@ impl InstanceLists {
         requires place { entry.place ≡ mark self.old.config.first self.old.history + 1 }
         requires room { 0 < self.old.room }
         requires may { IsArrival self.old page frame }
-        ensures { IsFollowed self.old self.new entry }
+        ensures { IsGrownBy self.old self.new entry }
     {
         take_next(&mut self.hand, &mut self.free);
         self.homes.insert(page, frame);
@@ -300,7 +301,7 @@ impl InstanceLists {
         requires place { entry.place ≡ mark self.old.config.first self.old.history + 1 }
         requires room { 0 < self.old.room }
         requires may { IsMaking self.old page frame start end }
-        ensures { IsFollowed self.old self.new entry }
+        ensures { IsGrownBy self.old self.new entry }
     {
         take_next(&mut self.hand, &mut self.free);
         self.homes.insert(page, frame);
@@ -318,7 +319,7 @@ impl InstanceLists {
         requires place { entry.place ≡ mark self.old.config.first self.old.history + 1 }
         requires room { 0 < self.old.room }
         requires may { home self.old.history page ≡ Some frame }
-        ensures { IsFollowed self.old self.new entry }
+        ensures { IsGrownBy self.old self.new entry }
     {
         let _ = self.lru.touch(frame, now);
         push_kept(&mut self.history, entry);
@@ -332,7 +333,7 @@ impl InstanceLists {
         requires place { entry.place ≡ mark self.old.config.first self.old.history + 1 }
         requires room { 0 < self.old.room }
         requires may { IsChange self.old page start end }
-        ensures { IsFollowed self.old self.new entry }
+        ensures { IsGrownBy self.old self.new entry }
     {
         match self.home(page) {
             Some(frame) => soil(&mut self.flush, &mut self.newest, frame, start, end),
@@ -348,7 +349,7 @@ impl InstanceLists {
         requires kind { (lsn upto : ℕ) × (entry.kind ≡ Kind.Write page lsn upto) }
         requires place { entry.place ≡ mark self.old.config.first self.old.history + 1 }
         requires room { 0 < self.old.room }
-        ensures { IsFollowed self.old self.new entry }
+        ensures { IsGrownBy self.old self.new entry }
     {
         let home = self.home(page);
         push_kept(&mut self.history, entry);
@@ -363,27 +364,31 @@ impl InstanceLists {
     fn append_evict(&mut self, entry: Entry, page: PageId, frame: u32)
         requires kind { (passed : List (ℕ × Word)) × (entry.kind ≡ Kind.Evict page frame passed) }
         requires place { entry.place ≡ mark self.old.config.first self.old.history + 1 }
-        requires places { self.old.config.first + length self.old.history + 1 < 2 ^ 48 }
+        requires places { self.old.config.first + length self.old.history + 1 < 2 ^ CLOCK_BITS }
         requires room { 0 < self.old.room }
         requires may { IsDeparture self.old page frame }
-        ensures { IsFollowed self.old self.new entry }
+        ensures { IsGrownBy self.old self.new entry }
     {
         self.homes.remove(page);
         self.lru.remove(frame);
-        self.hand = Some(frame);
+        self.hand = Some(Hand {
+            frame,
+            caller: entry.caller,
+            number: entry.number,
+        });
         push_kept(&mut self.history, entry);
     }
 
-    /// Appends a refusal behind the call's frame, which goes to the back of the free list.
+    /// Appends a refusal behind the call's frame, which goes to the back of the free list: its own victim's, or else the front one.
     ///
     /// Touches the ends of the free list.
     fn append_late(&mut self, entry: Entry)
         requires kind { (asked : Call) × (why : Cause) × (entry.kind ≡ Kind.Refused asked why) × (is_late asked why ≡ true) }
         requires place { entry.place ≡ mark self.old.config.first self.old.history + 1 }
         requires room { 0 < self.old.room }
-        ensures { IsFollowed self.old self.new entry }
+        ensures { IsGrownBy self.old self.new entry }
     {
-        give_next(&mut self.hand, &mut self.free);
+        give_next(&mut self.hand, &mut self.free, entry.caller, entry.number);
         push_kept(&mut self.history, entry);
     }
 
@@ -394,10 +399,10 @@ impl InstanceLists {
     /// end; a page that leaves is clean, and no frame is free. Entries of a resize, of watches and of dumps may not come.
     pub fn append(&mut self, entry: Entry)
         requires place { entry.place ≡ mark self.old.config.first self.old.history + 1 }
-        requires places { self.old.config.first + length self.old.history + 1 < 2 ^ 48 }
+        requires places { self.old.config.first + length self.old.history + 1 < 2 ^ CLOCK_BITS }
         requires room { 0 < self.old.room }
         requires may { MayCome self.old entry.kind }
-        ensures { IsFollowed self.old self.new entry }
+        ensures { IsGrownBy self.old self.new entry }
     {
         match &entry.kind {
             &Kind::Load { page, frame } => self.append_load(entry, page, frame),

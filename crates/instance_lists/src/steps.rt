@@ -4,12 +4,12 @@ ghost use Rattle.std.specs.VecDeque.{deque_capacity};
 ghost use Rattle.trail.specs.Book.{is_late};
 ghost use Rattle.flush_list.specs.View.{IsNew, IsNewest, Has};
 ghost use Rattle.midpoint_lru.specs.View as order;
-ghost use Rattle.instance_lists.specs.KeptLists.{in_turn, newest_in, after_change, after_write, after_making};
+ghost use Rattle.instance_lists.specs.KeptLists.{in_turn, own_hand, others_hand, turned, newest_in, after_change, after_write, after_making};
 
 use flush_list::Flush;
 use midpoint_lru::Lru;
 use std::collections::VecDeque;
-use trail::{Call, Cause};
+use trail::{Call, Cause, Hand};
 
 /// Whether the refusal of a call may come behind the call's frame.
 pub(crate) fn is_late(call: &Call, cause: &Cause) -> bool
@@ -28,7 +28,7 @@ pub(crate) fn is_late(call: &Call, cause: &Cause) -> bool
 }
 
 /// The next frame is taken: the one in hand, or else the first free one.
-pub(crate) fn take_next(hand: &mut Option<u32>, free: &mut VecDeque<u32>)
+pub(crate) fn take_next(hand: &mut Option<Hand>, free: &mut VecDeque<u32>)
     ensures hand { hand.new ≡ None }
     ensures free { free.new.items ≡ drop 1 (in_turn hand.old free.old.items) }
     ensures room { deque_capacity free.new ≡ deque_capacity free.old }
@@ -40,23 +40,22 @@ pub(crate) fn take_next(hand: &mut Option<u32>, free: &mut VecDeque<u32>)
     }
 }
 
-/// The next frame goes to the back of the free list.
-pub(crate) fn give_next(hand: &mut Option<u32>, free: &mut VecDeque<u32>)
+/// The frame that the call took, or would have taken, goes to the back of the free list. One in another call's hand stays there.
+pub(crate) fn give_next(hand: &mut Option<Hand>, free: &mut VecDeque<u32>, caller: u32, number: u32)
     requires room { length (in_turn hand.old free.old.items) ≤ deque_capacity free.old }
-    ensures hand { hand.new ≡ None }
-    ensures free { free.new.items ≡ drop 1 (in_turn hand.old free.old.items) ++ take 1 (in_turn hand.old free.old.items) }
+    ensures hand { hand.new ≡ others_hand caller number hand.old }
+    ensures free { free.new.items ≡ turned (in_turn (own_hand caller number hand.old) free.old.items) }
     ensures room { deque_capacity free.new ≡ deque_capacity free.old }
 {
-    match *hand {
-        Some(frame) => {
+    if let Some(held) = *hand {
+        if held.caller == caller && held.number == number {
             *hand = None;
-            free.push_back_reserved(frame);
+            free.push_back_reserved(held.frame);
+            return;
         }
-        None => {
-            if !free.is_empty() {
-                free.rotate_left(1);
-            }
-        }
+    }
+    if !free.is_empty() {
+        free.rotate_left(1);
     }
 }
 

@@ -125,7 +125,7 @@ fn a_log_goes_on_behind_its_opening(rt: HostRuntime) -> Result<(), Fail> {
     };
     assert_eq!(rt; redo.cover(&rt, &mut one, 8236).err(), Some(beyond));
     let covered = redo.cover(&rt, &mut two, 8235)?;
-    redo.marks().absorb(&mut one, covered.into_pass());
+    redo.marks().take_in(&mut one, covered);
     assert!(rt; redo.append(&rt, &mut two, create_draft(alloc)?).is_ok());
     let left = close(&rt, alloc, redo, one, two)?;
     assert_eq!(rt; left.disk.kept(), LOG.as_slice());

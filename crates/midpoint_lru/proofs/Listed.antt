@@ -30,9 +30,13 @@ module _ {X : Type 0} where
   insert_there [] back x = refl
   insert_there (y ∷ ys) back x = ap (λ zs. y ∷ zs) (insert_there ys back x)
 
-never : (x : ℕ) (xs : List ℕ) → last (x ∷ xs) ≡ None → ⊥
+pub never : (x : ℕ) (xs : List ℕ) → last (x ∷ xs) ≡ None → ⊥
 never x [] e = cc
 never x (y ∷ ys) e = never y ys e
+
+-- what is found towards the head from a frame, or from behind the tail, and its place
+abbrev pub Walked : List (Listed ℕ) → Option ℕ → Option ℕ → Type 0
+Walked listed after r = (r ≡ next_up after listed) × IfSome r (λ f. place_of ◌==◌ f listed + 1 ≡ place_up_to after listed)
 
 module _ (ms : List Member) where
   place_here : (f x : ℕ) (xs : List ℕ) → x ≡ f → place_of ◌==◌ f (map (listed_of ms) (x ∷ xs)) ≡ 0
@@ -106,37 +110,27 @@ module _ (ms : List Member) where
       ∙ ap (λ xs. option_map (λ (x : Listed ℕ). x.key) (slice_get xs (length (map (listed_of ms) front)))) (map-append (listed_of ms) front (f ∷ back))
       ∙ ap (option_map (λ (x : Listed ℕ). x.key)) (get_there (map (listed_of ms) front) (map (listed_of ms) back) (listed_of ms f))
 
-  -- what is found by following the chain back: the last of those that stand before a place
-  pub walk_next : (after : Option ℕ) (r : Option ℕ) (front back : List ℕ) → place_up_to after (map (listed_of ms) (front ++ back)) ≡ length front → r ≡ last front
-      → r ≡ next_up after (map (listed_of ms) (front ++ back))
-  walk_next after None front back up e = none front up e
+  -- what is found by following the chain back: the last of those that stand before a place, and it stands one before that
+  pub walked : (after r : Option ℕ) (front back : List ℕ) → ((x : ℕ) → times x (front ++ back) ≤ 1)
+      → place_up_to after (map (listed_of ms) (front ++ back)) ≡ length front → r ≡ last front → Walked (map (listed_of ms) (front ++ back)) after r
+  walked after None front back once up e = (none front up e, tt)
     where
       none : (front : List ℕ) → place_up_to after (map (listed_of ms) (front ++ back)) ≡ length front → None ≡ last front → None ≡ next_up after (map (listed_of ms) (front ++ back))
       none [] up e = sym (ap (λ b. cond b None (option_map (λ (x : Listed ℕ). x.key) (slice_get (map (listed_of ms) back) (place_up_to after (map (listed_of ms) back) - 1)))) (eq-eqb _ 0 up))
       none (x ∷ xs) up e = absurd (never x xs (sym e))
-  walk_next after (Some f) front back up e = some (last_there front f (sym e))
+  walked after (Some f) front back once up e = some (last_there front f (sym e))
     where
-      some : (more : List ℕ) × (front ≡ more ++ f ∷ []) → Some f ≡ next_up after (map (listed_of ms) (front ++ back))
+      some : (more : List ℕ) × (front ≡ more ++ f ∷ []) → Walked (map (listed_of ms) (front ++ back)) after (Some f)
       some t =
           let more = t.0 in
           let whole : front ++ back ≡ more ++ f ∷ back = ap (λ ys. ys ++ back) t.1 ∙ append_assoc more (f ∷ []) back in
           let len : length front ≡ suc (length more) = omega (arith, ap length t.1, length-append more (f ∷ [])) in
-          sym (ap (λ xs. next_up after (map (listed_of ms) xs)) whole
-          ∙ next_at more back f (place_up_to after (map (listed_of ms) (more ++ f ∷ back))) (ap (λ xs. place_up_to after (map (listed_of ms) xs)) (sym whole) ∙ up ∙ len))
-
-  pub walk_step : (after : Option ℕ) (r : Option ℕ) (front back : List ℕ) → ((x : ℕ) → times x (front ++ back) ≤ 1)
-      → place_up_to after (map (listed_of ms) (front ++ back)) ≡ length front → r ≡ last front
-      → IfSome r (λ f. place_of ◌==◌ f (map (listed_of ms) (front ++ back)) + 1 ≡ place_up_to after (map (listed_of ms) (front ++ back)))
-  walk_step after None front back once up e = tt
-  walk_step after (Some f) front back once up e = some (last_there front f (sym e))
-    where
-      some : (more : List ℕ) × (front ≡ more ++ f ∷ []) → place_of ◌==◌ f (map (listed_of ms) (front ++ back)) + 1 ≡ place_up_to after (map (listed_of ms) (front ++ back))
-      some t =
-          let more = t.0 in
-          let whole : front ++ back ≡ more ++ f ∷ back = ap (λ ys. ys ++ back) t.1 ∙ append_assoc more (f ∷ []) back in
           let there = place_is f more back (none_before f more back (subst (λ ys. times f ys ≤ 1) whole (once f))) in
-          let here = ap (λ xs. place_of ◌==◌ f (map (listed_of ms) xs)) whole in
-          omega (arith, there, here, up, ap length t.1, length-append more (f ∷ []))
+          let here = ap (λ xs. place_of ◌==◌ f (map (listed_of ms) xs)) whole in (
+            sym (ap (λ xs. next_up after (map (listed_of ms) xs)) whole
+                ∙ next_at more back f (place_up_to after (map (listed_of ms) (more ++ f ∷ back))) (ap (λ xs. place_up_to after (map (listed_of ms) xs)) (sym whole) ∙ up ∙ len)),
+            omega (arith, there, here, up, len),
+          )
 
 -- frames of which the same is kept make the same list
 pub listed_agree : (ms ms' : List Member) (xs : List ℕ) → ((f : ℕ) → 1 ≤ times f xs → listed_of ms' f ≡ listed_of ms f) → map (listed_of ms') xs ≡ map (listed_of ms) xs

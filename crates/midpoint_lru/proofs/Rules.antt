@@ -1,12 +1,14 @@
 -- An `Lru` behind a rule, as a view.
-use Rattle.std.proofs.Common.{◌≡◌, ◌∙◌, ◌==◌, ℕ, Bool, false, cond, List, ◌∷◌, set, Some, sym, ap, subst, unwrap_or}
+use Rattle.std.proofs.Common.{◌≡◌, ◌∙◌, ◌==◌, ℕ, Bool, false, cond, List, ◌∷◌, set, Some, length, get_or, sym, ap, subst, unwrap_or}
 use Rattle.std.specs.Prelude.{remove, slice_get, slice_set}
 use Rattle.std.specs.Option.{option_map_or}
-use Rattle.page_ids.specs.Midpoint.{Listed, Order, place_of, touch, touched, moves, becomes_young, relocate}
+use Rattle.std.proofs.lemmas.Option.{slice_get-get_or}
+use Rattle.page_ids.specs.Midpoint.{Listed, Order, place_of, old_length, touch, touched, moves, becomes_young, relocate}
 use Rattle.midpoint_lru.specs.declared.lru.Lru.TheInside.{Inside}
 use Rattle.midpoint_lru.specs.View.{View, Has}
 use Rattle.midpoint_lru.specs.Parts.{Parts, IsIn}
 use Rattle.midpoint_lru.specs.Inside.{view_of, IsKept, AreFrames}
+use Rattle.midpoint_lru.proofs.Frames.{blank}
 
 module _ (a : Inside) (v : View) (is : view_of a ≡ v) where
   pub frames_of : IsKept a → AreFrames v
@@ -14,6 +16,10 @@ module _ (a : Inside) (v : View) (is : view_of a ≡ v) where
 
   pub is_in : (f : ℕ) → Has v f → IsIn a.parts f
   is_in f h = subst (λ (w : View). Has w f) (sym is) h
+
+  -- the one at a listed frame's place
+  pub there_is : (f : ℕ) → Has v f → slice_get a.parts.listed (place_of ◌==◌ f a.parts.listed) ≡ Some (get_or a.parts.listed (place_of ◌==◌ f a.parts.listed) blank)
+  there_is f h = slice_get-get_or a.parts.listed (place_of ◌==◌ f a.parts.listed) blank (is_in f h)
 
   pub room_is : v.room ≡ a.parts.room
   room_is = ap (λ (w : View). w.room) (sym is)
@@ -31,6 +37,16 @@ module _ (a : Inside) (v : View) (is : view_of a ≡ v) where
       ∙ ap (λ (w : View). view w parts.listed evicts w.room) is
       ∙ ap (λ xs. view v xs evicts v.room) listed
       ∙ ap (λ n. view v o.listed n v.room) counted
+
+-- just so many are old as the rule says, where they are settled so, or neither they nor the length changed
+module _ (a : Inside) (parts : Parts) where
+  pub exact_settled : (before : Parts) (old len : ℕ) → parts ≡ record before { old_len = old } → ((time : ℕ) → old ≡ old_length (record { pct = a.pct; time = time; min = a.min }) len)
+      → len ≡ length before.listed → parts.old_len ≡ old_length (view_of a).numbers (length parts.listed)
+  exact_settled before old len settled rule is =
+      ap (λ (q : Parts). q.old_len) settled ∙ rule a.time ∙ ap (old_length (view_of a).numbers) (is ∙ ap (λ (q : Parts). length q.listed) (sym settled))
+
+  pub exact_still : IsKept a → parts.old_len ≡ a.parts.old_len → length parts.listed ≡ length a.parts.listed → parts.old_len ≡ old_length (view_of a).numbers (length parts.listed)
+  exact_still kept same long = same ∙ kept.exact ∙ ap (old_length (view_of a).numbers) (sym long)
 
 -- what a touch comes to, where the one at the frame's place is known
 module _ (v : View) (f now : ℕ) (x : Listed ℕ) (found : slice_get v.order.listed (place_of ◌==◌ f v.order.listed) ≡ Some x)

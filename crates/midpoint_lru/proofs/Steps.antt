@@ -10,8 +10,8 @@ use Rattle.link_lists.proofs.Times.{times-cons, times-append, times_at, times_pa
 use Rattle.page_ids.specs.Midpoint.{Listed, place_of}
 use Rattle.midpoint_lru.specs.declared.sublists.Member.{Member}
 use Rattle.midpoint_lru.specs.Parts.{instead}
-use Rattle.midpoint_lru.specs.Sublists.{member_of, listed_of, IsList, AreSublists}
-use Rattle.midpoint_lru.proofs.Listed.{listed_agree, removed, set_to, place_is, insert_there}
+use Rattle.midpoint_lru.specs.Sublists.{listed_as, member_of, listed_of, IsList, AreSublists}
+use Rattle.midpoint_lru.proofs.Listed.{never, listed_agree, removed, set_to, place_is, insert_there}
 
 abbrev pub blank : Member
 blank = record { first = None; since = 0; is_old = false }
@@ -50,10 +50,6 @@ instead_none x (z ∷ zs) other none = elim (cases_eq z x) [
 pub in_list : (l : IndexList) (xs : List ℕ) → IsInOrder l → l.items ≡ xs → IsList l xs
 in_list l xs order e = record { is = e; once = subst (λ ys. (x : ℕ) → times x ys ≤ 1) e order.once }
 
-never : (x : ℕ) (xs : List ℕ) → last (x ∷ xs) ≡ None → ⊥
-never x [] e = cc
-never x (y ∷ ys) e = never y ys e
-
 pub none_last : (xs : List ℕ) → last xs ≡ None → xs ≡ []
 none_last [] e = refl
 none_last (x ∷ xs) e = absurd (never x xs e)
@@ -84,11 +80,11 @@ module _ (ms : List Member) (x : ℕ) (m : Member) where
   listed_stays : (xs : List ℕ) → times x xs ≡ 0 → map (listed_of (set ms x m)) xs ≡ map (listed_of ms) xs
   listed_stays xs none = listed_agree ms (set ms x m) xs (λ f there. elim (cases_eq x f) [
     | inl e ↦ absurd (omega (arith, none, there, ap (λ i. times i xs) e))
-    | inr ne ↦ ap (λ (k : Member). let y : Listed ℕ = record { key = f; first = k.first; since = k.since } in y) (other f ne)
+    | inr ne ↦ ap (listed_as f) (other f ne)
   ])
 
-  listed_here : x < length ms → listed_of (set ms x m) x ≡ record { key = x; first = m.first; since = m.since }
-  listed_here l = ap (λ (k : Member). let y : Listed ℕ = record { key = x; first = k.first; since = k.since } in y) (here l)
+  listed_here : x < length ms → listed_of (set ms x m) x ≡ listed_as x m
+  listed_here l = ap (listed_as x) (here l)
 
 -- a mark alone changes nothing of the list
 listed_marked : (ms : List Member) (x : ℕ) (m : Member) (xs : List ℕ) → x < length ms → m.first ≡ (member_of ms x).first → m.since ≡ (member_of ms x).since
@@ -96,7 +92,7 @@ listed_marked : (ms : List Member) (x : ℕ) (m : Member) (xs : List ℕ) → x 
 listed_marked ms x m xs l first since = listed_agree ms (set ms x m) xs (λ f there. elim (cases_eq x f) [
   | inl e ↦ subst (λ i. listed_of (set ms x m) i ≡ listed_of ms i) e
       (listed_here ms x m l ∙ ap (λ a. let y : Listed ℕ = record { key = x; first = a; since = m.since } in y) first ∙ ap (λ b. let y : Listed ℕ = record { key = x; first = (member_of ms x).first; since = b } in y) since)
-  | inr ne ↦ ap (λ (k : Member). let y : Listed ℕ = record { key = f; first = k.first; since = k.since } in y) (other ms x m f ne)
+  | inr ne ↦ ap (listed_as f) (other ms x m f ne)
 ])
 
 module _ (c c' : IndexList) (ms : List Member) (fo : Option ℕ) (young old : List ℕ) (s : AreSublists c ms fo young old) where
@@ -106,7 +102,7 @@ module _ (c c' : IndexList) (ms : List Member) (fo : Option ℕ) (young old : Li
   -- a frame comes in at the head
   pub with_first : (x : ℕ) (m : Member) (old_len : ℕ) → x < length ms → times x (young ++ old) ≡ 0 → m.is_old ≡ false → old_len ≡ length old
       → IsList c' (x ∷ young ++ old)
-      → Leaves c' (set ms x m) fo (record { key = x; first = m.first; since = m.since } ∷ map (listed_of ms) (young ++ old)) old_len
+      → Leaves c' (set ms x m) fo (listed_as x m ∷ map (listed_of ms) (young ++ old)) old_len
   with_first x m old_len l none mark share chain =
       let parts = times-append x young old in record {
         young = x ∷ young;
@@ -122,20 +118,20 @@ module _ (c c' : IndexList) (ms : List Member) (fo : Option ℕ) (young old : Li
           ];
         };
         listed_is = ap (λ y. y ∷ map (listed_of (set ms x m)) (young ++ old)) (listed_here ms x m l)
-            ∙ ap (λ ys. let y : Listed ℕ = record { key = x; first = m.first; since = m.since } in y ∷ ys) (listed_stays ms x m (young ++ old) none);
+            ∙ ap (λ ys. listed_as x m ∷ ys) (listed_stays ms x m (young ++ old) none);
         share_is = share;
       }
 
   -- or before the first old one
   pub with_between : (x : ℕ) (m : Member) (old_len : ℕ) → x < length ms → times x (young ++ old) ≡ 0 → m.is_old ≡ false → old_len ≡ length old
       → IsList c' (young ++ x ∷ old)
-      → Leaves c' (set ms x m) fo (insert (map (listed_of ms) (young ++ old)) (length (map (listed_of ms) (young ++ old)) - old_len) (record { key = x; first = m.first; since = m.since })) old_len
+      → Leaves c' (set ms x m) fo (insert (map (listed_of ms) (young ++ old)) (length (map (listed_of ms) (young ++ old)) - old_len) (listed_as x m)) old_len
   with_between x m old_len l none mark share chain =
       let parts = times-append x young old in
       let young_none : times x young ≡ 0 = omega (arith, none, parts) in
       let old_none : times x old ≡ 0 = omega (arith, none, parts) in
       let ms' = set ms x m in
-      let y : Listed ℕ = record { key = x; first = m.first; since = m.since } in
+      let y = listed_as x m in
       let whole : (young ++ x ∷ []) ++ old ≡ young ++ x ∷ old = append_assoc young (x ∷ []) old in
       let at : length (map (listed_of ms) (young ++ old)) - old_len ≡ length (map (listed_of ms) young) = omega (arith, share, length-map (young ++ old) (listed_of ms), length-map young (listed_of ms), length-append young old) in record {
         young = young ++ x ∷ [];
@@ -219,7 +215,7 @@ module _ (c c' : IndexList) (ms : List Member) (fo : Option ℕ) (young old : Li
       old_marks = λ f there. ap (λ (m : Member). m.is_old) (same f (omega (arith, there, times-append f young old))) ∙ s.old_marks f there;
       there = λ f there. omega (arith, s.there f there, more);
     };
-    listed_is = listed_agree ms ms' (young ++ old) (λ f there. ap (λ (m : Member). let y : Listed ℕ = record { key = f; first = m.first; since = m.since } in y) (same f there));
+    listed_is = listed_agree ms ms' (young ++ old) (λ f there. ap (listed_as f) (same f there));
     share_is = share;
   }
 
@@ -286,10 +282,10 @@ module _ (c c' : IndexList) (ms : List Member) (fo : Option ℕ) (young old : Li
 -- the list where another frame stands for one, or the same with a new first access
 written_split : (ms : List Member) (o n : ℕ) (m : Member) (front back : List ℕ) → times n front ≡ 0 → times n back ≡ 0 → times o front ≡ 0 → n < length ms
     → map (listed_of (set ms n m)) (front ++ n ∷ back)
-    ≡ slice_set (map (listed_of ms) (front ++ o ∷ back)) (place_of ◌==◌ o (map (listed_of ms) (front ++ o ∷ back))) (record { key = n; first = m.first; since = m.since })
+    ≡ slice_set (map (listed_of ms) (front ++ o ∷ back)) (place_of ◌==◌ o (map (listed_of ms) (front ++ o ∷ back))) (listed_as n m)
 written_split ms o n m front back before behind own l =
     let ms' = set ms n m in
-    let y : Listed ℕ = record { key = n; first = m.first; since = m.since } in
+    let y = listed_as n m in
     map-append (listed_of ms') front (n ∷ back)
     ∙ ap (λ ys. ys ++ listed_of ms' n ∷ map (listed_of ms') back) (listed_stays ms n m front before)
     ∙ ap (λ z. map (listed_of ms) front ++ z ∷ map (listed_of ms') back) (listed_here ms n m l)
@@ -303,7 +299,7 @@ module _ (c : IndexList) (ms : List Member) (fo : Option ℕ) (young old : List 
 
   -- a listed frame has another first access
   pub with_access : 1 ≤ times x (young ++ old) → m.is_old ≡ (member_of ms x).is_old
-      → Leaves c (set ms x m) fo (slice_set (map (listed_of ms) (young ++ old)) (place_of ◌==◌ x (map (listed_of ms) (young ++ old))) (record { key = x; first = m.first; since = m.since })) old_len
+      → Leaves c (set ms x m) fo (slice_set (map (listed_of ms) (young ++ old)) (place_of ◌==◌ x (map (listed_of ms) (young ++ old))) (listed_as x m)) old_len
   with_access there mark = record {
     young = young;
     old = old;
@@ -325,11 +321,11 @@ module _ (c : IndexList) (ms : List Member) (fo : Option ℕ) (young old : List 
       ]
 
       by_split : (front back : List ℕ) × (young ++ old ≡ front ++ x ∷ back)
-          → map (listed_of (set ms x m)) (young ++ old) ≡ slice_set (map (listed_of ms) (young ++ old)) (place_of ◌==◌ x (map (listed_of ms) (young ++ old))) (record { key = x; first = m.first; since = m.since })
+          → map (listed_of (set ms x m)) (young ++ old) ≡ slice_set (map (listed_of ms) (young ++ old)) (place_of ◌==◌ x (map (listed_of ms) (young ++ old))) (listed_as x m)
       by_split t =
           let own = subst (λ ys. times x ys ≤ 1) t.2 (s.whole.once x) in
           let before = none_before x t.0 t.1 own in
-          let y : Listed ℕ = record { key = x; first = m.first; since = m.since } in
+          let y = listed_as x m in
           ap (map (listed_of (set ms x m))) t.2 ∙ written_split ms x x m t.0 t.1 before (none_behind x t.0 t.1 own) before l
           ∙ ap (λ ys. slice_set (map (listed_of ms) ys) (place_of ◌==◌ x (map (listed_of ms) ys)) y) (sym t.2)
 
@@ -376,7 +372,7 @@ module _ (c c' : IndexList) (ms : List Member) (fo fo' : Option ℕ) (young old 
     (none : times n (young ++ old) ≡ 0) (kept : m ≡ member_of ms x) (is : fo' ≡ instead fo x (Some n))
     (swap : (front back : List ℕ) → IsList c (front ++ x ∷ back) → IsList c' (front ++ n ∷ back)) where
   abbrev pub list_then : List (Listed ℕ)
-  list_then = slice_set (map (listed_of ms) (young ++ old)) (place_of ◌==◌ x (map (listed_of ms) (young ++ old))) (record { key = n; first = m.first; since = m.since })
+  list_then = slice_set (map (listed_of ms) (young ++ old)) (place_of ◌==◌ x (map (listed_of ms) (young ++ old))) (listed_as n m)
 
   there_then : (front back : List ℕ) → young ++ old ≡ front ++ x ∷ back → (f : ℕ) → 1 ≤ times f (front ++ n ∷ back) → f < length (set ms n m)
   there_then front back w f there = elim (cases_eq n f) [
@@ -386,7 +382,7 @@ module _ (c c' : IndexList) (ms : List Member) (fo fo' : Option ℕ) (young old 
 
   listed_then : (front back : List ℕ) → young ++ old ≡ front ++ x ∷ back → map (listed_of (set ms n m)) (front ++ n ∷ back) ≡ list_then
   listed_then front back w =
-      let y : Listed ℕ = record { key = n; first = m.first; since = m.since } in
+      let y = listed_as n m in
       let parts = times-append n front (x ∷ back) in
       let all = ap (times n) (sym w) ∙ none in
       let own = subst (λ ys. times x ys ≤ 1) w (s.whole.once x) in

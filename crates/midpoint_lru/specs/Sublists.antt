@@ -12,9 +12,13 @@ use Rattle.midpoint_lru.specs.Parts.{Parts}
 abbrev pub member_of : List Member → ℕ → Member
 member_of members frame = slice_index_or members frame (record { first = None; since = 0; is_old = false })
 
+-- a frame of which this is kept as one of the list
+abbrev pub listed_as : ℕ → Member → Listed ℕ
+listed_as frame member = record { key = frame; first = member.first; since = member.since }
+
 -- a frame as one of the list
 abbrev pub listed_of : List Member → ℕ → Listed ℕ
-listed_of members frame = record { key = frame; first = (member_of members frame).first; since = (member_of members frame).since }
+listed_of members frame = listed_as frame (member_of members frame)
 
 -- what is kept as what the calls see
 abbrev pub parts_of : Inside → Parts

@@ -3,6 +3,7 @@ ghost use Rattle.std.specs.Prelude.{◌≡◌, ◌==◌, ◌+◌, ◌<◌, ◌�
 ghost use Rattle.page_ids.specs.Midpoint as rule;
 ghost use Rattle.page_ids.specs.Midpoint.{Listed};
 ghost use Rattle.midpoint_lru.specs.View.{Has, IsNew, place_up_to, next_up};
+ghost use Rattle.midpoint_lru.specs.Sublists.{listed_as};
 
 use crate::sublists::{Member, Sublists};
 use page_ids::OutOfMemory;
@@ -97,9 +98,9 @@ impl Lru {
     fn judge(&self, frame: u32, now: u64) -> (Member, bool)
         requires { Has self.now frame }
         ensures found { slice_get self.now.order.listed (rule.place_of ◌==◌ frame self.now.order.listed)
-            ≡ Some (record { key = frame; first = result.0.first; since = result.0.since }) }
+            ≡ Some (listed_as frame result.0) }
         ensures moves { result.1 ≡ rule.moves self.now.numbers now self.now.order (rule.place_of ◌==◌ frame self.now.order.listed)
-            (record { key = frame; first = result.0.first; since = result.0.since }) }
+            (listed_as frame result.0) }
     {
         let member = self.parts.member(frame);
         (member, self.moves(member, now))

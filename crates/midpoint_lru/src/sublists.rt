@@ -4,7 +4,7 @@ ghost use Rattle.std.specs.Option.{option_map};
 ghost use Rattle.link_lists.specs.Chains.{first, last};
 ghost use Rattle.page_ids.specs.Midpoint.{Listed, place_of};
 ghost use Rattle.midpoint_lru.specs.View.{place_up_to, next_up};
-ghost use Rattle.midpoint_lru.specs.Sublists.{member_of};
+ghost use Rattle.midpoint_lru.specs.Sublists.{member_of, listed_as};
 ghost use Rattle.midpoint_lru.specs.Parts.{IsIn, IsOut, young, old_without, instead};
 
 use link_lists::IndexList;
@@ -90,7 +90,7 @@ impl Sublists {
     pub(crate) fn member(&self, frame: u32) -> Member
         requires { IsIn self.now frame }
         ensures found { slice_get self.now.listed (place_of ◌==◌ frame self.now.listed)
-            ≡ Some (record { key = frame; first = result.first; since = result.since }) }
+            ≡ Some (listed_as frame result) }
         ensures old { result.is_old ≡ not (nat_lt (place_of ◌==◌ frame self.now.listed) (young self.now)) }
     {
         self.members[frame as usize]

@@ -1,5 +1,5 @@
 -- Each cell keeps just its frames when one is put in, taken out or replaced.
-use Rattle.std.proofs.Common.{◌≡◌, ◌≢◌, ◌∙◌, ◌<◌, ◌≤◌, ℕ, Bool, true, false, cond, List, [], ◌∷◌, ◌++◌, inl, inr, length, set, Option, None, Some, slice_get, refl, sym, ap, subst, arith}
+use Rattle.std.proofs.Common.{◌≡◌, ◌≢◌, ◌∙◌, ◌<◌, ◌≤◌, ℕ, Bool, true, false, cond, List, [], ◌∷◌, ◌++◌, inl, inr, length, set, get_or, Option, None, Some, slice_get, refl, sym, ap, subst, arith}
 use Rattle.std.proofs.lemmas.Bool.{cases_eq, cases_lt, ne_eqb, eq-eqb, eqb-true}
 use Rattle.std.proofs.lemmas.List.{length-set, length-append, get_or-set_other, get_or_append_left, get_or_push}
 use Rattle.std.proofs.lemmas.Grind.{get_or-set_at}
@@ -94,6 +94,18 @@ same_else n d frame page at new old f = elim (cases_eq f frame) [
   | inr ne ↦ ap (falls_into n d) (page_else frame f page at ne)
 ]
 
+-- the cell of a page, as it is read: at its place stands this chain
+pub record IsRead (cells : List Ends) (page : PageId) (c : ℕ) (chain : Ends) : Type 0 where
+  pub own : c ≡ cell_of (length cells) page
+  pub there : slice_get cells c ≡ Some chain
+
+pub read_of : (cells : List Ends) (page : PageId) (n c : ℕ) (chain : Ends) → n ≡ length cells → c ≡ cell_of n page → c < n → chain ≡ get_or cells c chain
+    → IsRead cells page c chain
+read_of cells page n c chain all own inside is = record {
+  own = own ∙ ap (λ m. cell_of m page) all;
+  there = slice_get_read cells (length cells) c chain refl (omega (arith, inside, all)) is;
+}
+
 -- one cell changed, and of the others neither the frames nor the nodes
 pub filed_after : (old new : Grid) (cells : List Ends) (at then : Tags) (c : ℕ) (chain : Ends) (touched : List ℕ)
     → AreFiled old cells at → IsCell new chain then (length cells) c → Keeps 0 old new touched
@@ -123,15 +135,15 @@ filed_after old new cells at then c chain touched filed k keeps apart same d e i
 
 -- a frame that had no page is put at the front of the cell of its page
 pub filed_with : (old new : Grid) (cells : List Ends) (at : Tags) (c frame : ℕ) (page : PageId) (was chain : Ends)
-    → c ≡ cell_of (length cells) page → slice_get cells c ≡ Some was → at frame ≡ None → AreFiled old cells at
+    → IsRead cells page c was → at frame ≡ None → AreFiled old cells at
     → chain.pair ≡ was.pair
     → ((xs : List ℕ) → IsChain old was xs → IsChain new chain (frame ∷ xs))
     → ((xs : List ℕ) → IsChain old was xs → Keeps was.pair old new (frame ∷ xs))
     → AreFiled new (set cells c chain) (with_page frame (Some page) at)
-filed_with old new cells at c frame page was chain own there none filed pair list others =
+filed_with old new cells at c frame page was chain read none filed pair list others =
     let n = length cells in
-    let k = filed c was there in
-    let falls = own_cell n page c own in
+    let k = filed c was read.there in
+    let falls = own_cell n page c read.own in
     filed_after old new cells at (with_page frame (Some page) at) c chain (frame ∷ k.frames) filed
     (record {
       pair = pair ∙ k.pair;
@@ -147,15 +159,15 @@ filed_with old new cells at c frame page was chain own there none filed pair lis
 
 -- the frame of a page is taken out of the page's cell
 pub filed_without : (old new : Grid) (cells : List Ends) (at : Tags) (c frame : ℕ) (page : PageId) (was chain : Ends)
-    → c ≡ cell_of (length cells) page → slice_get cells c ≡ Some was → at frame ≡ Some page → AreFiled old cells at
+    → IsRead cells page c was → at frame ≡ Some page → AreFiled old cells at
     → chain.pair ≡ was.pair
     → ((front back : List ℕ) → IsChain old was (front ++ frame ∷ back) → IsChain new chain (front ++ back))
     → ((xs : List ℕ) → IsChain old was xs → Keeps was.pair old new xs)
     → AreFiled new (set cells c chain) (with_page frame None at)
-filed_without old new cells at c frame page was chain own there some filed pair list others =
+filed_without old new cells at c frame page was chain read some filed pair list others =
     let n = length cells in
-    let k = filed c was there in
-    let falls : falls_into n c (at frame) ≡ true = ap (falls_into n c) some ∙ own_cell n page c own in
+    let k = filed c was read.there in
+    let falls : falls_into n c (at frame) ≡ true = ap (falls_into n c) some ∙ own_cell n page c read.own in
     let p = placed frame k.frames (omega (arith, stands n c at k.frames frame k.counted falls)) in
     filed_after old new cells at (with_page frame None at) c chain k.frames filed
     (record {
@@ -170,15 +182,15 @@ filed_without old new cells at c frame page was chain own there some filed pair 
 
 -- another frame takes the place of the page's frame
 pub filed_moved : (old new : Grid) (cells : List Ends) (at : Tags) (c from to : ℕ) (page : PageId) (was chain : Ends)
-    → c ≡ cell_of (length cells) page → slice_get cells c ≡ Some was → at from ≡ Some page → at to ≡ None → AreFiled old cells at
+    → IsRead cells page c was → at from ≡ Some page → at to ≡ None → AreFiled old cells at
     → chain.pair ≡ was.pair
     → ((front back : List ℕ) → IsChain old was (front ++ from ∷ back) → IsChain new chain (front ++ to ∷ back))
     → ((xs : List ℕ) → IsChain old was xs → Keeps was.pair old new (to ∷ xs))
     → AreFiled new (set cells c chain) (with_page to (Some page) (with_page from None at))
-filed_moved old new cells at c from to page was chain own there some none filed pair list others =
+filed_moved old new cells at c from to page was chain read some none filed pair list others =
     let n = length cells in
-    let k = filed c was there in
-    let own_falls = own_cell n page c own in
+    let k = filed c was read.there in
+    let own_falls = own_cell n page c read.own in
     let falls : falls_into n c (at from) ≡ true = ap (falls_into n c) some ∙ own_falls in
     let p = placed from k.frames (omega (arith, stands n c at k.frames from k.counted falls)) in
     let left = with_page from None at in
@@ -207,12 +219,12 @@ absent g cells at c frame was there none filed =
     (k.frames, k.chain_is, lacks (length cells) c at k.frames frame k.counted (ap (falls_into (length cells) c) none))
 
 -- the page's frame stands in the page's cell
-pub present : (g : Grid) (cells : List Ends) (at : Tags) (c frame : ℕ) (page : PageId) (was : Ends) → c ≡ cell_of (length cells) page → slice_get cells c ≡ Some was
+pub present : (g : Grid) (cells : List Ends) (at : Tags) (c frame : ℕ) (page : PageId) (was : Ends) → IsRead cells page c was
     → at frame ≡ Some page → AreFiled g cells at → (front back : List ℕ) × IsChain g was (front ++ frame ∷ back)
-present g cells at c frame page was own there some filed =
+present g cells at c frame page was read some filed =
     let n = length cells in
-    let k = filed c was there in
-    let falls : falls_into n c (at frame) ≡ true = ap (falls_into n c) some ∙ own_cell n page c own in
+    let k = filed c was read.there in
+    let falls : falls_into n c (at frame) ≡ true = ap (falls_into n c) some ∙ own_cell n page c read.own in
     let p = placed frame k.frames (omega (arith, stands n c at k.frames frame k.counted falls)) in
     (p.0, p.1, subst (λ xs. IsChain g was xs) p.2 k.chain_is)
 

@@ -217,7 +217,7 @@ pub record Moved (pages : Pages) (page : PageId) (from to : ℕ) : Type 0 where
   pub tags : (f : ℕ) → with_page to (Some page) (with_page from None (page_in pages)) f ≡ page_in (set (set pages from None) to (Some page)) f
   pub long : length (set (set pages from None) to (Some page)) ≡ length pages
 
-pub replaced : (pages : Pages) (page : PageId) (from to : ℕ) → to < length pages → AreApart pages → home pages page ≡ Some from → IsUnused pages to → Moved pages page from to
+replaced : (pages : Pages) (page : PageId) (from to : ℕ) → to < length pages → AreApart pages → home pages page ≡ Some from → IsUnused pages to → Moved pages page from to
 replaced pages page from to l apart there away =
     let mid = set pages from None in
     let was = at_home pages page from there in
@@ -237,19 +237,24 @@ replaced pages page from to l apart there away =
       long = length-set mid to (Some page) ∙ long;
     }
 
+-- the same of a map as it is seen, where the look-up found the frame
+pub replaced_seen : (pages now : Pages) (page : PageId) (from to : ℕ) (r : Option ℕ) → pages ≡ now → AreApart pages → r ≡ home now page → r ≡ Some from → to < length now → IsUnused now to
+    → Moved pages page from to
+replaced_seen pages now page from to r is apart found some room away =
+    replaced pages page from to (omega (arith, room, ap length is)) apart (ap (λ xs. home xs page) is ∙ sym found ∙ some) (subst (λ xs. IsUnused xs to) (sym is) away)
+
 -- the pages of the frames that were there, and more frames without any
-pub resized : (old new : Pages) (frames : ℕ) → length new ≡ frames → AreApart old → ((f : ℕ) → page_in old f ≡ page_in new f) → AreApart new × IsResized old new frames
-resized old new frames long apart same =
+pub resized : (old new : Pages) (m n : ℕ) → m ≡ length old → length new ≡ n → m ≤ n → AreApart old → ((f : ℕ) → f < n → f < m → page_in new f ≡ page_in old f)
+    → ((f : ℕ) → m ≤ f → f < n → page_in new f ≡ None) → AreApart new × IsResized old new n
+resized old new m n was long le apart kept more =
     let still : AreApart new = λ f g p e h. apart f g p (same f ∙ e) (same g ∙ h) in
     (still, record { homes = λ p. home_same old new p still (λ f e. sym (same f) ∙ e) (λ f e. same f ∙ e); room_is = long })
-
--- a list of tags that was filled up with frames without pages
-pub tags_grown : (old new : Pages) (n : ℕ) → length new ≡ n → ((f : ℕ) → f < n → f < length old → page_in new f ≡ page_in old f)
-    → ((f : ℕ) → length old ≤ f → f < n → page_in new f ≡ None) → length old ≤ n → (f : ℕ) → page_in old f ≡ page_in new f
-tags_grown old new n long kept more le f = elim (cases_lt f (length old)) [
-  | inl before ↦ sym (kept f (omega (arith, before, le)) before)
-  | inr behind ↦ get_or_past old f None (omega (arith, behind)) ∙ sym (elim (cases_lt f n) [
-    | inl inside ↦ more f (omega (arith, behind)) inside
-    | inr past ↦ get_or_past new f None (omega (arith, past, long))
-  ])
-]
+  where
+    same : (f : ℕ) → page_in old f ≡ page_in new f
+    same f = elim (cases_lt f m) [
+      | inl before ↦ sym (kept f (omega (arith, before, le)) before)
+      | inr behind ↦ get_or_past old f None (omega (arith, behind, was)) ∙ sym (elim (cases_lt f n) [
+        | inl inside ↦ more f (omega (arith, behind)) inside
+        | inr past ↦ get_or_past new f None (omega (arith, past, long))
+      ])
+    ]

@@ -1,8 +1,7 @@
 -- How the frames of a pool are counted.
-use Rattle.std.specs.Prelude.{ℕ, zero, suc, List, [], ◌∷◌, ◌+◌, ◌-◌, ◌*◌, ◌/◌, ◌%◌}
+use Rattle.std.specs.Prelude.{ℕ, zero, suc, List, [], ◌∷◌, ◌+◌, ◌-◌, ◌*◌, ◌/◌}
 use Rattle.page_ids.specs.Size.{page_bytes}
 use Rattle.page_ids.specs.declared.config.Config.{Config}
-use Rattle.page_ids.specs.declared.ids.PageId.{PageId}
 
 -- the bytes of one chunk in every instance
 abbrev pub unit_of : Config → ℕ
@@ -20,7 +19,3 @@ chunks_of c = chunks_for c c.size
 abbrev pub rising : ℕ → ℕ → List ℕ
 rising from zero = []
 rising from (suc n) = from ∷ rising (from + 1) n
-
--- the instance that a page belongs to, of so many: 64 neighbours share one
-abbrev pub instance_of : PageId → ℕ → ℕ
-instance_of p instances = (p.space * 31 + p.page / 64) % instances

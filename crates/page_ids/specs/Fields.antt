@@ -6,7 +6,7 @@ use Rattle.page_ids.specs.declared.config.Config.{Config}
 use Rattle.page_ids.specs.declared.config.Field.{Field}
 use Rattle.page_ids.specs.declared.config.Field.TheVariants.{Page, Instances, Frames, Size, Max, OldPct, OldTime, OldMin, Lsn, First}
 use Rattle.page_ids.specs.declared.config.BadConfig.{BadConfig}
-use Rattle.page_ids.specs.declared.limits.TheConstants.{LIMIT, MOST_FRAMES, MOST_BYTES}
+use Rattle.page_ids.specs.declared.limits.TheConstants.{LAST_LSN, LIMIT, MOST_FRAMES, MOST_BYTES}
 
 -- the least multiple of the unit that is at least so many
 abbrev pub rounded : ℕ → ℕ → ℕ
@@ -33,7 +33,7 @@ is_settable Max n = is_within 1 16 n
 is_settable OldPct n = is_within 5 95 n
 is_settable OldTime n = is_within 0 (2 ^ 32 - 1) n
 is_settable OldMin n = is_within 1 16384 n
-is_settable Lsn n = is_within 1 (2 ^ 63 - 1) n
+is_settable Lsn n = is_within 1 (LAST_LSN - 1) n
 is_settable First n = is_within 0 LIMIT n
 
 -- the number that the field has
@@ -80,5 +80,5 @@ pub record IsFit (c : Config) : Type 0 where
   pub pct : (5 ≤ c.old_pct) × (c.old_pct ≤ 95)
   pub time : c.old_time < 2 ^ 32
   pub min : (1 ≤ c.old_min) × (c.old_min ≤ 16384)
-  pub lsn : (1 ≤ c.lsn) × (c.lsn < 2 ^ 63)
+  pub lsn : (1 ≤ c.lsn) × (c.lsn < LAST_LSN)
   pub first : c.first ≤ LIMIT

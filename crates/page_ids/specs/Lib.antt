@@ -1,9 +1,11 @@
 pub mod Size
 pub mod Same
 pub mod Chunks
+pub mod Instances
 pub mod Fields
 pub mod Faults
 pub mod FrameWord
+pub mod Typed
 pub mod Spelling
 pub mod Numerals
 pub mod Content

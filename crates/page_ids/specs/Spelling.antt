@@ -15,14 +15,14 @@ hex [] = []
 hex (b ∷ bs) = digit_glyph false (b / 16) ∷ digit_glyph false (b % 16) ∷ hex bs
 
 -- each item behind a comma
-abbrev pub listed : {A : Type 0} → (A → List ℕ) → List A → List ℕ
-listed item [] = []
-listed item (x ∷ xs) = 44 ∷ item x ++ listed item xs
+abbrev pub after_commas : {A : Type 0} → (A → List ℕ) → List A → List ℕ
+after_commas item [] = []
+after_commas item (x ∷ xs) = 44 ∷ item x ++ after_commas item xs
 
 -- the items with commas between them, and a dash for none
 abbrev pub list_text : {A : Type 0} → (A → List ℕ) → List A → List ℕ
 list_text item [] = codes "-"
-list_text item (x ∷ xs) = item x ++ listed item xs
+list_text item (x ∷ xs) = item x ++ after_commas item xs
 
 abbrev pub ids_text : List PageId → List ℕ
 ids_text ids = list_text page_text ids

@@ -1,6 +1,7 @@
 //! The word of a frame: its fixes, its latch, whether a page is resident in it, and its modify clock.
 ghost use Rattle.std.specs.Prelude.{◌≡◌, ◌<◌, ◌^◌, ℕ, Some};
 ghost use Rattle.page_ids.specs.FrameWord.{fixes_of, is_latched, is_resident, clock_of, packed, bit, FitsWord, HasFields, StaysPacked, word_text};
+ghost use Rattle.page_ids.specs.declared.limits.TheConstants.{CLOCK_BITS, FIX_BITS};
 ghost use Rattle.page_ids.specs.declared.frame_word.Word.{Word};
 
 use std::fmt;
@@ -16,8 +17,8 @@ pub struct Word {
 impl Word {
     /// The word of these fields; the fixes are below 2^14 and the clock is below 2^48.
     pub fn of(fixes: u32, latched: bool, resident: bool, clock: u64) -> Word
-        requires fixes { fixes < 2 ^ 14 }
-        requires clock { clock < 2 ^ 48 }
+        requires fixes { fixes < 2 ^ FIX_BITS }
+        requires clock { clock < 2 ^ CLOCK_BITS }
         ensures { result.bits ≡ packed fixes (bit latched) (bit resident) clock }
     {
         let latch = if latched { 0x4000 } else { 0 };

@@ -23,8 +23,9 @@ pub use ids::{PageId, PageSize};
 pub use image::Image;
 pub use layout::{BadPage, decode};
 pub use limits::{
-    ANSWER_NEED, CREATE_NEED, FIX_NEED, FRAME_NEED, GROWTH_NEED, LAST_LSN, LAST_PLACE, LIMIT,
-    MOST_BYTES, MOST_FIXES, MOST_FRAMES, MOST_WATCHES, RECORD_BYTES, ROUND_NEED,
+    ANSWER_NEED, CLOCK_BIT, CLOCK_BITS, CREATE_NEED, FIX_BITS, FIX_NEED, FRAME_NEED, GROWTH_NEED,
+    LAST_LSN, LAST_PLACE, LATCH_BIT, LIMIT, MOST_BYTES, MOST_FIXES, MOST_FRAMES, MOST_WATCHES,
+    RECORD_BYTES, RESIDENT_BIT, ROUND_NEED,
 };
 pub use lists::{Bytes, Ids, Words};
 pub use writing::{a_page_has_one_image, an_image_has_one_page, encode};

@@ -15,6 +15,21 @@ pub const MOST_WATCHES: u32 = 33;
 /// The bytes that a log record has beside those of its change.
 pub const RECORD_BYTES: u64 = 21;
 
+/// The bits of a frame's word that count its fixes.
+pub const FIX_BITS: u32 = 14;
+
+/// The bit that latches the frame.
+pub const LATCH_BIT: u32 = 14;
+
+/// The bit that says that a page is resident in it.
+pub const RESIDENT_BIT: u32 = 15;
+
+/// The lowest bit of its modify clock.
+pub const CLOCK_BIT: u32 = 16;
+
+/// How many bits the modify clock has.
+pub const CLOCK_BITS: u32 = 48;
+
 /// The last place that the closing flush may take: 2^48 - 1. A place is a modify clock, which has 48 bits of a frame's word.
 pub const LAST_PLACE: u64 = 281_474_976_710_655;
 

@@ -24,5 +24,5 @@ pub record IsKept (size : ℕ) (r : Row) : Type 0 where
   pub sized : IsSized size r.image
   pub there : r.resident ≡ true → r.latched ≡ false → IsSome r.image
 
-abbrev pub AreKept : ℕ → List Row → Type 0
-AreKept size rows = (f : ℕ) → f < length rows → IsKept size (slice_index_or rows f new_row)
+abbrev pub AreTold : ℕ → List Row → Type 0
+AreTold size rows = (f : ℕ) → f < length rows → IsKept size (slice_index_or rows f new_row)

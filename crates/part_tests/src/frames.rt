@@ -6,7 +6,7 @@ ghost use Rattle.page_ids.specs.FrameWord.{is_resident, clock_of};
 ghost use Rattle.frame_words.specs.Appends.{extended};
 ghost use Rattle.frame_words.specs.Rows.{new_row, published_row, laid_row, held_row};
 ghost use Rattle.frame_words.specs.Seen.{row_at, noted};
-ghost use Rattle.frame_words.specs.Conditions.{IsFree, IsNext, IsSteady, IsUnlatched};
+ghost use Rattle.frame_words.specs.Conditions.{IsUntouched, IsNext, IsSteady, IsUnlatched};
 
 use crate::telling::TellingFrames;
 use frame_words::{Frames, PlainFrames};
@@ -34,7 +34,7 @@ const CONFIG: Config = Config {
 
 // The word of a frame: what all forms tell of it.
 fn word_of<F: Frames>(frames: &mut F, frame: u32) -> Word
-    requires free { IsFree (F.seen frames.old) frame }
+    requires free { IsUntouched (F.seen frames.old) frame }
     requires steady { IsSteady (F.seen frames.old) frame }
     ensures resident { is_resident result ≡ (row_at (F.seen frames.old) frame).resident }
     ensures clock { clock_of result ≡ (row_at (F.seen frames.old) frame).clock }

@@ -139,7 +139,7 @@ const ORDER: [Row; 14] = [
 ];
 
 /// The commands' values, each at its ends and beyond, and how many there are.
-const COMMANDS: [Row; 35] = [
+const COMMANDS: [Row; 46] = [
     (b"thread 1\nread 0:0 38 1", None),
     (b"thread 1\nread 0:0 38 256", None),
     (b"thread 1\nread 0:0 16375 1", None),
@@ -171,6 +171,20 @@ const COMMANDS: [Row; 35] = [
     (b"thread 1\nfix 0:0", Some(2)),
     (b"thread 1\nread 0:0 38", Some(2)),
     (b"thread 1\nguess 0:0", Some(2)),
+    (b"thread 1\nscan 0:0-0 1", None),
+    (b"thread 1\nscan 0:7-4102 1", None),
+    (
+        b"thread 1\nscan 4294967295:4294967295-4294967295 18446744073709551615",
+        None,
+    ),
+    (b"thread 1\nscan 0:5-4 1", Some(2)),
+    (b"thread 1\nscan 0:7-4103 1", Some(2)),
+    (b"thread 1\nscan 0:0-4294967295 1", Some(2)),
+    (b"thread 1\nscan 0:1-0:2 1", Some(2)),
+    (b"thread 1\nscan 0:1 1", Some(2)),
+    (b"thread 1\nscan 0:1- 1", Some(2)),
+    (b"thread 1\nscan 0:1-02 1", Some(2)),
+    (b"thread 1\nscan 0:1-2", Some(2)),
     (b"page 8192\nsize 1\nthread 1\nread 0:0 8183 1", None),
     (b"page 8192\nsize 1\nthread 1\nread 0:0 8184 1", Some(4)),
     (b"size 1\npage 4096\nthread 1\nput 0:0 4087 ab", None),
@@ -211,7 +225,7 @@ type Long = (
 );
 
 /// The most bytes of a put, the most calls and the longest scripts, and one more of each.
-const LONG: [Long; 8] = [
+const LONG: [Long; 10] = [
     (b"thread 1\nput 0:0 16120 ", b"5a", 256, b"", None),
     (b"thread 1\nput 0:0 38 ", b"5a", 257, b"", Some(2)),
     (b"thread 1\n", b"clean 0\n", 65536, b"# no call\n", None),
@@ -221,6 +235,20 @@ const LONG: [Long; 8] = [
         65536,
         b"#\ncheckpoint\nwhat",
         Some(65540),
+    ),
+    (
+        b"thread 1\n",
+        b"scan 0:0-4095 1\n",
+        5,
+        b"scan 1:0-1364 1\nclean 0\n",
+        None,
+    ),
+    (
+        b"thread 1\n",
+        b"scan 0:0-4095 1\n",
+        5,
+        b"scan 1:0-1364 1\nclean 0\ncheckpoint\nscan",
+        Some(9),
     ),
     (b"", b"# fifteen bytes\n", 65536, b"", None),
     (b"", b"# fifteen bytes\n", 65536, b"\n", Some(0)),
@@ -275,7 +303,7 @@ fn which_texts_are_scripts(rt: HostRuntime) -> Result<(), Fail> {
 /// Each setting and each command.
 const SCRIPT: &[u8] =
     b"page 4096\nframes 8\nsize 16385\nmax 3\nold_pct 5\nold_time 6\nold_min 7\nlsn 9\n\
-    thread 1\nfix 7:9 5\nread 7:9 38 4\nput 7:9 39 00ff\nunfix 7:9\ncreate 0:2 8\nclean 16384\ncheckpoint\n";
+    thread 1\nfix 7:9 5\nread 7:9 38 4\nput 7:9 39 00ff\nunfix 7:9\ncreate 0:2 8\nscan 7:9-11 12\nclean 16384\ncheckpoint\n";
 
 const CONFIG: Config = Config {
     page: PageSize::Kib4,
@@ -312,6 +340,11 @@ fn what_a_script_asks_for(rt: HostRuntime) -> Result<(), Fail> {
             page: PageId { space: 0, page: 2 },
             now: 8,
         },
+        Command::Scan {
+            from: page,
+            last: 11,
+            now: 12,
+        },
         Command::Clean { bound: 16384 },
         Command::Checkpoint,
     ];
@@ -336,7 +369,7 @@ const PRINTED: [(&[u8], &[u8]); 3] = [
     (
         SCRIPT,
         b"page 4096\ninstances 1\nframes 8\nsize 16385\nmax 3\nold_pct 5\nold_time 6\nold_min 7\nlsn 9\nfirst 0\n\
-        thread 1\nfix 7:9 5\nread 7:9 38 4\nput 7:9 39 00ff\nunfix 7:9\ncreate 0:2 8\nclean 16384\ncheckpoint\n",
+        thread 1\nfix 7:9 5\nread 7:9 38 4\nput 7:9 39 00ff\nunfix 7:9\ncreate 0:2 8\nscan 7:9-11 12\nclean 16384\ncheckpoint\n",
     ),
 ];
 

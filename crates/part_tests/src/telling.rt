@@ -27,7 +27,7 @@ pub(crate) struct TellingFrames<R: Abort + Copy> {
 impl<R: Abort + Copy> Model for TellingFrames<R> {
     ghost use Rattle.std.specs.Prelude.{◌<◌, ◌≤◌, ◌+◌, ◌-◌, ◌^◌, map, reverse, length};
     ghost use Rattle.page_ids.specs.Size.{page_bytes};
-    ghost use Rattle.part_tests.specs.Telling.{Telling, AreKept};
+    ghost use Rattle.part_tests.specs.Telling.{Telling, AreTold};
 
     ghost Value = { Telling };
 
@@ -37,7 +37,7 @@ impl<R: Abort + Copy> Model for TellingFrames<R> {
       turn = record { caller = t.caller; number = t.number };
     } };
 
-    ghost invariant = { λ t. AreKept (page_bytes t.config.page) t.frames.rows };
+    ghost invariant = { λ t. AreTold (page_bytes t.config.page) t.frames.rows };
 }
 
 impl<R: Abort + Copy> TellingFrames<R> {

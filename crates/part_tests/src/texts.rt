@@ -396,12 +396,12 @@ fn text_of(alloc: Global, instance: u16, trail: &Trail) -> Result<Vec<u8>, OutOf
     Ok(out)
 }
 
-/// Receipts stand behind the entry of their place, those of earlier callers first.
+/// Receipts stand behind the entry of their place, those of earlier callers first, in whatever order the accounts come.
 fn merged(rt: &HostRuntime) -> Result<Trail, OutOfMemory> {
     let history = vec![in rt.alloc(); checked(6, 1, 2), checked(7, 2, 2)]?;
     let one = vec![in rt.alloc(); unfixed(5, 1, 1), unfixed(7, 1, 3)]?;
     let two = vec![in rt.alloc(); unfixed(5, 2, 1), unfixed(7, 2, 3), unfixed(7, 2, 4)]?;
-    let accounts = vec![in rt.alloc(); one, two]?;
+    let accounts = vec![in rt.alloc(); two, one]?;
     let mut room = Vec::new(rt.alloc());
     room.reserve(7)?;
     Ok(merge(5, history, accounts, room))

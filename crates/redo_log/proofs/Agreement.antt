@@ -7,7 +7,7 @@ use Rattle.redo_log.specs.declared.view.Piece.{Piece}
 use Rattle.redo_log.specs.declared.view.Story.{Story}
 use Rattle.redo_log.specs.declared.view.View.{View}
 use Rattle.redo_log.specs.Story.{end_of, longer, piece_at}
-use Rattle.redo_log.specs.Marks.{words_of, IsSound, taken, told, appended, Looks}
+use Rattle.redo_log.specs.Marks.{words_of, IsSound, taken, told, appended, raised, Looks}
 use Rattle.redo_log.specs.Turns.{Agrees, IsTurn}
 
 none_more : (more : List ℕ) → length more ≡ 0 → more ≡ []
@@ -28,7 +28,7 @@ bytes_same (Some a) (Some b) bytes opened end grows was count whole =
 
 -- the marks rose, and no record came
 pub turn_covered : (v w : View) (old new : Seen) → IsTurn v old → IsLater old new → IsMeasured new → new.end ≡ old.end
-    → w ≡ told v record v.story { durable = new.durable; faults = new.faults } → IsTurn w new
+    → w ≡ raised v new.durable new.faults → IsTurn w new
 turn_covered v w old new turn later measured same at =
     let s = turn.agrees in
     let opened : v.story.opened ≡ new.opened = s.opened ∙ sym later.opened in

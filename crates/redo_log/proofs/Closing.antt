@@ -11,22 +11,23 @@ use Rattle.redo_log.specs.declared.view.Piece.{Piece}
 use Rattle.redo_log.specs.declared.view.Story.{Story}
 use Rattle.redo_log.specs.declared.view.View.{View}
 use Rattle.redo_log.specs.Story.{end_of, Stands, StandAll}
-use Rattle.redo_log.specs.Marks.{IsSound, Looks, joined}
+use Rattle.redo_log.specs.Marks.{IsSound, Looks, bytes_of, joined}
 use Rattle.redo_log.specs.Passes.{Known, LogOf, known_of}
 use Rattle.redo_log.specs.Turns.{Agrees, BeganAs}
-use Rattle.redo_log.specs.Ends.{IsWithin, IsKeptBelow, IsInEnd, IsEndOf}
-use Rattle.redo_log.proofs.Pieces.{stand_all_left, stand_all_right}
+use Rattle.redo_log.specs.Ends.{IsWithin, shares_of, sizes_of, mets_of, IsKeptBelow, IsInEnd, IsEndOf}
+use Rattle.redo_log.proofs.Pieces.{size-append, stand_all_left, stand_all_right}
 
 -- of these passes the view has taken in all but those that are left
-abbrev pub HasTaken : View → List Known → List Known → Type 0
-HasTaken v left all = (done : List Known) × (all ≡ left ++ done) × All (IsWithin v) done
+abbrev pub HasTaken : View → View → List Known → List Known → Type 0
+HasTaken first v left all = (done : List Known) × (all ≡ left ++ done) × All (IsWithin v) done × (v.share ≡ first.share + shares_of done) × (bytes_of v ≡ bytes_of first + sizes_of done)
+    × (v.met ≡ first.met + mets_of done)
 
-pub none_taken : (v : View) (all : List Known) → HasTaken v all all
-none_taken v all = ([], sym (append-nil all), All-nil (IsWithin v))
+pub none_taken : (v : View) (all : List Known) → HasTaken v v all all
+none_taken v all = ([], sym (append-nil all), All-nil (IsWithin v), omega arith, omega arith, omega arith)
 
-pub one_taken : (v w : View) (id : TableId) (left rest all : List Known) → left ≡ rest ++ known_of id w ∷ [] → HasTaken v left all
-    → HasTaken (joined v w) rest all
-one_taken v w id left rest all is h =
+pub one_taken : (first v w : View) (id : TableId) (left rest all : List Known) → left ≡ rest ++ known_of id w ∷ [] → HasTaken first v left all
+    → HasTaken first (joined v w) rest all
+one_taken first v w id left rest all is h =
     let q = known_of id w in
     let older : (p : Known) → IsWithin v p → IsWithin (joined v w) p = λ p g. record {
       end = omega (arith, g.end);
@@ -43,10 +44,22 @@ one_taken v w id left rest all is h =
       q ∷ h.0,
       h.1 ∙ ap (λ l. l ++ h.0) is ∙ append_assoc rest (q ∷ []) h.0,
       All-cons (IsWithin (joined v w)) q h.0 here (All-weaker (IsWithin v) (IsWithin (joined v w)) older h.0 h.2),
+      (let share = h.3 in omega (arith, share)),
+      (let size = size-append v.pieces w.pieces in let bytes = h.4 in omega (arith, size, bytes)),
+      (let met = h.5 in omega (arith, met)),
     )
 
-pub all_taken : (v : View) (left all : List Known) → left ≡ [] → HasTaken v left all → All (IsWithin v) all
-all_taken v left all is h = subst (All (IsWithin v)) (sym (h.1 ∙ ap (λ l. l ++ h.0) is)) h.2
+pub all_taken : (first v : View) (left all : List Known) → left ≡ [] → HasTaken first v left all → All (IsWithin v) all
+all_taken first v left all is h = subst (All (IsWithin v)) (sym (h.1 ∙ ap (λ l. l ++ h.0) is)) h.2
+
+pub all_shares : (first v : View) (left all : List Known) → left ≡ [] → HasTaken first v left all → v.share ≡ first.share + shares_of all
+all_shares first v left all is h = h.3 ∙ ap (λ l. first.share + shares_of l) (sym (h.1 ∙ ap (λ l. l ++ h.0) is))
+
+pub all_sizes : (first v : View) (left all : List Known) → left ≡ [] → HasTaken first v left all → bytes_of v ≡ bytes_of first + sizes_of all
+all_sizes first v left all is h = h.4 ∙ ap (λ l. bytes_of first + sizes_of l) (sym (h.1 ∙ ap (λ l. l ++ h.0) is))
+
+pub all_mets : (first v : View) (left all : List Known) → left ≡ [] → HasTaken first v left all → v.met ≡ first.met + mets_of all
+all_mets first v left all is h = h.5 ∙ ap (λ l. first.met + mets_of l) (sym (h.1 ∙ ap (λ l. l ++ h.0) is))
 
 -- a piece of the story stands in the log
 pub holds_piece : (s : Story) (seen : Seen) (p : Piece) → Agrees s seen → Stands s p → Holds seen p.bytes p.start

@@ -1,9 +1,9 @@
 -- Pieces in a log that grows.
-use Rattle.std.proofs.Common.{◌≡◌, ℕ, ◌+◌, ◌≤◌, ◌<◌, ◌++◌, List, [], ◌∷◌, length, sym, ap, ◌∙◌, arith, append_assoc, length-append}
+use Rattle.std.proofs.Common.{◌≡◌, ℕ, ◌+◌, ◌≤◌, ◌<◌, ◌++◌, List, [], ◌∷◌, length, refl, sym, ap, ◌∙◌, arith, append_assoc, length-append}
 use Rattle.std.proofs.lemmas.List.{append-nil}
 use Rattle.redo_log.specs.declared.view.Piece.{Piece}
 use Rattle.redo_log.specs.declared.view.Story.{Story}
-use Rattle.redo_log.specs.Story.{end_of, longer, Stands, StandAll}
+use Rattle.redo_log.specs.Story.{end_of, longer, size_of, Stands, StandAll}
 
 -- a piece stands still where more is put behind it
 pub stands_more : (s : Story) (more : List ℕ) (p : Piece) → Stands s p → Stands (longer s more) p
@@ -20,6 +20,11 @@ stands_new s p is some = (s.bytes, [], sym (append-nil (s.bytes ++ p.bytes)), sy
 pub stand_all_append : (s : Story) (ps qs : List Piece) → StandAll s ps → StandAll s qs → StandAll s (ps ++ qs)
 stand_all_append s [] qs all more = more
 stand_all_append s (p ∷ ps) qs all more = (all.0, stand_all_append s ps qs all.1 more)
+
+-- pieces have their bytes together
+pub size-append : (ps qs : List Piece) → size_of (ps ++ qs) ≡ size_of ps + size_of qs
+size-append [] qs = omega arith
+size-append (p ∷ ps) qs = let rest = size-append ps qs in omega (arith, rest)
 
 pub stand_all_left : (s : Story) (ps qs : List Piece) → StandAll s (ps ++ qs) → StandAll s ps
 stand_all_left s [] qs all = tt

@@ -19,6 +19,11 @@ piece_at start bytes = record { start = start; bytes = bytes }
 abbrev pub Stands : Story → Piece → Type 0
 Stands s p = (before after : List ℕ) × (s.bytes ≡ before ++ p.bytes ++ after) × (s.opened + length before ≡ p.start) × (0 < length p.bytes)
 
+-- how many bytes these pieces have
+abbrev pub size_of : List Piece → ℕ
+size_of [] = 0
+size_of (p ∷ ps) = length p.bytes + size_of ps
+
 abbrev pub StandAll : Story → List Piece → Type 0
 StandAll s [] = Unit {0}
 StandAll s (p ∷ ps) = Stands s p × StandAll s ps

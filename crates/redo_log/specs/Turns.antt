@@ -1,5 +1,5 @@
 -- What lies under the lock, and what a pass knows in its turn.
-use Rattle.std.specs.Prelude.{◌≡◌, ℕ, ◌+◌, true, IfSome}
+use Rattle.std.specs.Prelude.{◌≡◌, ℕ, ◌+◌, true, [], IfSome}
 use Rattle.atomic_table.specs.Seated.{TableId}
 use Rattle.redo_mark.specs.Device.{RedoSeen}
 use Rattle.redo_mark.specs.Logs.{Seen, State}
@@ -43,6 +43,7 @@ module _ {R : Type 0} (seen : R → RedoSeen) where
   pub record IsTailOf (log : LogOf R) (t : TailOf R) : Type 0 where
     pub cell : t.cell ≡ log.log
     pub keeps : t.keeper.keeps ≡ true
+    pub none : (t.keeper.share ≡ 0) × (t.keeper.pieces ≡ []) × (t.keeper.met ≡ 0)
     pub agrees : Agrees t.keeper.story t.state.seen
     pub began : BeganAs log t.state
 

@@ -20,4 +20,4 @@ mod view;
 pub use passes::{Covered, Marks, RedoPass};
 pub use redo::{Redo, StartCause, StartErr};
 pub use tail::{Home, Tail};
-pub use view::{Cell, Law, Piece, Seat, Story, View};
+pub use view::{Cell, Law, Piece, SHARES, Seat, Story, View};

@@ -1,27 +1,27 @@
 //! A pass of a log, that the log is durable up to an LSN, and the cell of its marks. None of them names a device.
-ghost use Rattle.std.specs.Prelude.{◌≡◌, ◌≤◌, [], false};
-ghost use Rattle.redo_log.specs.Passes.{both};
+ghost use Rattle.std.specs.Prelude.{◌≡◌, ◌≤◌};
+ghost use Rattle.redo_log.specs.Passes.{GoesOn, both};
 
 use crate::steps;
 use crate::view::{Cell, Seat};
 use std::marker::Model;
 
-/// What a caller knows of a log. Contracts see of which log it is, the marks that it last saw, and its records.
+/// What a caller knows of a log. Contracts see of which log it is, the marks that it last saw, how many
+/// of the faults are its own, its records, and its share.
 #[derive(Drop)]
 pub struct RedoPass {
     pub(crate) seat: Seat,
 }
 
 impl Model for RedoPass {
-    ghost use Rattle.std.specs.Prelude.{◌≡◌, false};
     ghost use Rattle.crossbeam_utils.specs.Seq.{cell_view};
-    ghost use Rattle.redo_log.specs.Passes.{Known, known_of};
+    ghost use Rattle.redo_log.specs.Passes.{Known, IsIdle, known_of};
 
     ghost Value = { Known };
 
     ghost view = { λ p. known_of p.seat.table_id (cell_view p.seat) };
 
-    ghost invariant = { λ p. (cell_view p.seat).keeps ≡ false };
+    ghost invariant = { λ p. IsIdle (cell_view p.seat) };
 }
 
 /// Shows that a log is durable up to an LSN: its device keeps every byte of it below. Only `Redo::cover` makes one.
@@ -49,16 +49,6 @@ impl Covered {
     {
         self.upto
     }
-
-    /// A pass that knows the durable mark, and no record.
-    pub fn into_pass(self) -> RedoPass
-        ensures log { result.log ≡ self.log }
-        ensures durable { self.upto ≤ result.durable }
-        ensures pieces { result.pieces ≡ [] }
-    {
-        let Covered { seat, upto: _ } = self;
-        RedoPass { seat }
-    }
 }
 
 /// The marks of a log. Contracts see which log it is.
@@ -83,5 +73,19 @@ impl Marks {
     {
         let RedoPass { seat: other } = other;
         steps::join(&self.cell, &mut pass.seat, other);
+    }
+
+    /// A pass takes in that its log is durable up to an LSN.
+    pub fn take_in(&self, pass: &mut RedoPass, covered: Covered)
+        requires log { (pass.old.log ≡ self.now) × (covered.log ≡ self.now) }
+        ensures goes { GoesOn pass.old pass.new }
+        ensures rest { (pass.new.pieces ≡ pass.old.pieces) × (pass.new.met ≡ pass.old.met) }
+        ensures durable { covered.upto ≤ pass.new.durable }
+    {
+        let Covered {
+            seat: shown,
+            upto: _,
+        } = covered;
+        steps::join(&self.cell, &mut pass.seat, shown);
     }
 }

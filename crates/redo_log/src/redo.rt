@@ -1,28 +1,27 @@
 //! The log that several passes share.
-ghost use Rattle.std.specs.Prelude.{◌≡◌, ◌≤◌, ◌<◌, ◌+◌, ◌++◌, ◌^◌, ℕ, [], ◌∷◌, length, All, false, OnErr, IfOk, IfErr, IsOk, IsErrAnd, Err};
+ghost use Rattle.std.specs.Prelude.{◌≡◌, ◌≤◌, ◌<◌, ◌+◌, ◌-◌, ◌++◌, ◌^◌, ℕ, [], ◌∷◌, length, min, All, false, OnErr, IfOk, IfErr, IsOk, IsErrAnd, Err};
+ghost use Rattle.page_ids.specs.declared.limits.TheConstants.{LAST_LSN};
 ghost use Rattle.crossbeam_utils.specs.Seq.{cell_view};
 ghost use Rattle.redo_mark.specs.Records.{sealed};
-ghost use Rattle.redo_mark.specs.Logs.{IsSpan, IsFault};
+ghost use Rattle.redo_mark.specs.Logs.{IsSpan};
+ghost use Rattle.redo_log.specs.declared.view.TheConstants.{SHARES};
 ghost use Rattle.redo_log.specs.Story.{piece_at};
-ghost use Rattle.redo_log.specs.Passes.{GoesOn, IsNew, known_of};
+ghost use Rattle.redo_log.specs.Passes.{GoesOn, MetFault, IsNew, IsIdle, known_of};
 ghost use Rattle.redo_log.specs.Homes.{log_of};
 ghost use Rattle.redo_log.specs.Turns.{IsTurn, BeganAs};
-ghost use Rattle.redo_log.specs.Ends.{IsEndOf, IsInEnd};
+ghost use Rattle.redo_log.specs.Ends.{IsEndOf, IsInEnd, AreAll, shares_of};
 
 use crate::passes::{Covered, Marks, RedoPass};
 use crate::tail::{Home, Tail};
 use crate::view::{Cell, Seat};
 use crate::{steps, turns};
 use keyed_lock::{Loan, Lock};
-use page_ids::OutOfMemory;
+use page_ids::{LAST_LSN, OutOfMemory};
 use redo_mark::{CoverErr, Draft, LogSpent, Redo as Log, RedoDisk, RedoEnd, Span};
 use std::alloc::Global;
 use std::marker::Model;
 use std::snapshot::Snapshot;
 use std::sync::Wait;
-
-/// No LSN is above this.
-const LSN_MAX: u64 = 1 << 63;
 
 /// A log that several passes append to. Contracts see which log it is, the LSN of its device's first byte, and that device as it was at
 /// the start.
@@ -66,7 +65,7 @@ fn open<R: RedoDisk, W: Wait>(
     disk: R,
     first: u64,
 ) -> Result<(Redo<R>, RedoPass), (OutOfMemory, R)>
-    requires limit { first + (R.seen disk).opened ≤ 2 ^ 63 }
+    requires limit { first + (R.seen disk).opened ≤ LAST_LSN }
     ensures fresh { IfOk result (λ r. IsNew r.0.log (first + (R.seen disk).opened) (R.seen disk).faults r.1) }
     ensures log { IfOk result (λ r. (r.0.first ≡ first) × (r.0.opening ≡ disk)) }
     ensures err { IfErr result (λ e. e.1 ≡ disk) }
@@ -103,14 +102,14 @@ impl<R: RedoDisk> Redo<R> {
     ) -> Result<(Redo<R>, RedoPass), StartErr<R>>
         ensures fresh { IfOk result (λ r. IsNew r.0.log (first + (R.seen disk).opened) (R.seen disk).faults r.1) }
         ensures log { IfOk result (λ r. (r.0.first ≡ first) × (r.0.opening ≡ disk)) }
-        ensures limit { IfOk result (λ r. first + (R.seen disk).opened ≤ 2 ^ 63) }
+        ensures limit { IfOk result (λ r. first + (R.seen disk).opened ≤ LAST_LSN) }
         ensures err { IfErr result (λ e. e.disk ≡ disk) }
         ensures spent { (end : ℕ) → IsErrAnd result (λ e. e.cause ≡ StartCause.LogSpent end)
-            → (end ≡ (R.seen disk).opened) × (2 ^ 63 < first + (R.seen disk).opened) }
-        ensures far { 2 ^ 63 < first + (R.seen disk).opened → IsErrAnd result (λ e. e.cause ≡ StartCause.LogSpent (R.seen disk).opened) }
+            → (end ≡ (R.seen disk).opened) × (LAST_LSN < first + (R.seen disk).opened) }
+        ensures far { LAST_LSN < first + (R.seen disk).opened → IsErrAnd result (λ e. e.cause ≡ StartCause.LogSpent (R.seen disk).opened) }
     {
         let end = disk.end();
-        if first > LSN_MAX || end > LSN_MAX - first {
+        if first > LAST_LSN || end > LAST_LSN - first {
             return Err(StartErr {
                 cause: StartCause::LogSpent { end },
                 disk,
@@ -125,13 +124,14 @@ impl<R: RedoDisk> Redo<R> {
         }
     }
 
-    /// Another pass, which knows the same marks, and no record.
+    /// Another pass, which knows the same marks, met no fault, and has no record. It gets one share of the pass that it comes from; where
+    /// that has no second one, its share is lost.
     pub fn pass(&self, pass: &mut RedoPass) -> RedoPass
         requires pass { pass.old.log ≡ self.now.log }
-        ensures same { pass.new ≡ pass.old }
-        ensures new { result ≡ record pass.old { pieces = [] } }
+        ensures less { pass.new ≡ record pass.old { share = pass.old.share - 1; lost = pass.old.lost + (2 - pass.old.share) } }
+        ensures new { result ≡ record pass.new { met = 0; pieces = []; share = min 1 pass.new.share } }
     {
-        let seat = steps::split(&self.marks.cell, &mut pass.seat);
+        let seat = steps::share(&self.marks.cell, &mut pass.seat);
         RedoPass { seat }
     }
 
@@ -146,7 +146,7 @@ impl<R: RedoDisk> Redo<R> {
     pub fn end<W: Wait>(&self, rt: &W, pass: &mut RedoPass) -> u64
         requires pass { pass.old.log ≡ self.now.log }
         ensures goes { GoesOn pass.old pass.new }
-        ensures pieces { pass.new.pieces ≡ pass.old.pieces }
+        ensures rest { (pass.new.pieces ≡ pass.old.pieces) × (pass.new.met ≡ pass.old.met) }
         ensures end { result ≡ pass.new.end }
     {
         steps::look(&self.marks.cell, rt, &mut pass.seat)[0]
@@ -156,7 +156,7 @@ impl<R: RedoDisk> Redo<R> {
     pub fn durable<W: Wait>(&self, rt: &W, pass: &mut RedoPass) -> u64
         requires pass { pass.old.log ≡ self.now.log }
         ensures goes { GoesOn pass.old pass.new }
-        ensures pieces { pass.new.pieces ≡ pass.old.pieces }
+        ensures rest { (pass.new.pieces ≡ pass.old.pieces) × (pass.new.met ≡ pass.old.met) }
         ensures durable { (result ≡ pass.new.durable) × (result ≤ pass.new.end) }
     {
         steps::look(&self.marks.cell, rt, &mut pass.seat)[1]
@@ -168,7 +168,7 @@ impl<R: RedoDisk> Redo<R> {
         ensures turn { IsTurn (cell_view seat.new) result.0.seen }
         ensures began { BeganAs R.seen self.now result.0 }
         ensures goes { GoesOn (known_of seat.old.table_id (cell_view seat.old)) (known_of seat.new.table_id (cell_view seat.new)) }
-        ensures pieces { (cell_view seat.new).pieces ≡ (cell_view seat.old).pieces }
+        ensures rest { ((cell_view seat.new).pieces ≡ (cell_view seat.old).pieces) × ((cell_view seat.new).met ≡ (cell_view seat.old).met) }
         ensures loan { log_of result.1 ≡ self.now }
     {
         let (tail, loan) = self.lock.take(rt);
@@ -204,8 +204,9 @@ impl<R: RedoDisk> Redo<R> {
         ensures goes { GoesOn pass.old pass.new }
         ensures span { IfOk result (IsSpan pass.old.end pass.new.end (length draft + 8)) }
         ensures pieces { IfOk result (λ s. pass.new.pieces ≡ pass.old.pieces ++ piece_at s.start (sealed draft s.start) ∷ []) }
-        ensures spent { IfErr result (λ e. (pass.old.end ≤ e.end) × (e.end ≤ pass.new.end) × (2 ^ 63 < e.end + length draft + 8)) }
+        ensures spent { IfErr result (λ e. (pass.old.end ≤ e.end) × (e.end ≤ pass.new.end) × (LAST_LSN < e.end + length draft + 8)) }
         ensures err { OnErr result (pass.new.pieces ≡ pass.old.pieces) }
+        ensures unused { pass.new.met ≡ pass.old.met }
     {
         let seat = &mut pass.seat;
         let (mut log, loan) = self.enter(rt, seat);
@@ -224,11 +225,12 @@ impl<R: RedoDisk> Redo<R> {
         ensures goes { GoesOn pass.old pass.new }
         ensures pieces { pass.new.pieces ≡ pass.old.pieces }
         ensures ok { IfOk result (λ c. (c.log ≡ pass.old.log) × (lsn ≤ c.upto) × (c.upto ≡ pass.new.durable) × (c.upto ≤ pass.new.end)) }
-        ensures idle { lsn ≤ pass.old.durable → IsOk result }
+        ensures idle { lsn ≤ pass.old.durable → IsOk result × (pass.new.met ≡ pass.old.met) }
         ensures beyond { (l end : ℕ) → result ≡ Err (CoverErr.BeyondEnd l end)
             → (l ≡ lsn) × (pass.old.end ≤ end) × (end ≤ pass.new.end) × (end < lsn) }
+        ensures unused { (l end : ℕ) → result ≡ Err (CoverErr.BeyondEnd l end) → pass.new.met ≡ pass.old.met }
         ensures fault { (before after : ℕ) → result ≡ Err (CoverErr.Fault before after)
-            → IsFault pass.old.faults pass.new.faults before after × (lsn ≤ pass.new.end) × (pass.new.durable < lsn) }
+            → MetFault pass.old pass.new before after × (lsn ≤ pass.new.end) × (pass.new.durable < lsn) }
     {
         let seat = &mut pass.seat;
         let upto = match self.reach(rt, seat, lsn) {
@@ -242,16 +244,17 @@ impl<R: RedoDisk> Redo<R> {
     /// The durable mark, once it is at this LSN at least.
     fn reach<W: Wait>(&self, rt: &W, seat: &mut Seat, lsn: u64) -> Result<u64, CoverErr>
         requires cell { seat.old.table_id ≡ self.now.log }
-        requires idle { (cell_view seat.old).keeps ≡ false }
-        ensures idle { (cell_view seat.new).keeps ≡ false }
+        requires idle { IsIdle (cell_view seat.old) }
+        ensures idle { IsIdle (cell_view seat.new) }
         ensures goes { GoesOn (known_of seat.old.table_id (cell_view seat.old)) (known_of seat.new.table_id (cell_view seat.new)) }
         ensures pieces { (cell_view seat.new).pieces ≡ (cell_view seat.old).pieces }
         ensures ok { IfOk result (λ upto. (upto ≡ (cell_view seat.new).durable) × (lsn ≤ upto) × (upto ≤ (cell_view seat.new).end)) }
-        ensures known { lsn ≤ (cell_view seat.old).durable → IsOk result }
+        ensures known { lsn ≤ (cell_view seat.old).durable → IsOk result × ((cell_view seat.new).met ≡ (cell_view seat.old).met) }
         ensures beyond { (l end : ℕ) → result ≡ Err (CoverErr.BeyondEnd l end)
             → (l ≡ lsn) × ((cell_view seat.old).end ≤ end) × (end ≤ (cell_view seat.new).end) × (end < lsn) }
+        ensures unused { (l end : ℕ) → result ≡ Err (CoverErr.BeyondEnd l end) → (cell_view seat.new).met ≡ (cell_view seat.old).met }
         ensures fault { (before after : ℕ) → result ≡ Err (CoverErr.Fault before after)
-            → IsFault (cell_view seat.old).faults (cell_view seat.new).faults before after
+            → MetFault (known_of seat.old.table_id (cell_view seat.old)) (known_of seat.new.table_id (cell_view seat.new)) before after
             × (lsn ≤ (cell_view seat.new).end) × ((cell_view seat.new).durable < lsn) }
     {
         let marks = steps::look(&self.marks.cell, rt, seat);
@@ -269,6 +272,7 @@ impl<R: RedoDisk> Redo<R> {
         requires passes { All (λ p. p.log ≡ self.log) passes.items }
         ensures end { IsEndOf R.seen self result }
         ensures passes { All (IsInEnd self.first (R.seen result.disk) result.end result.durable) passes.items }
+        ensures all { shares_of passes.items ≡ SHARES → AreAll R.seen self result passes.items }
     {
         let Redo { marks, lock } = self;
         let tail = lock.close(rt);

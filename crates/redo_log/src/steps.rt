@@ -3,9 +3,9 @@ ghost use Rattle.std.specs.Prelude.{◌≡◌, ◌≤◌, ◌<◌, ◌+◌, ◌+
 ghost use Rattle.crossbeam_utils.specs.Seq.{cell_view};
 ghost use Rattle.redo_mark.specs.Records.{sealed};
 ghost use Rattle.redo_log.specs.Story.{end_of, longer, piece_at};
-ghost use Rattle.redo_log.specs.Marks.{IsSound, Looks, words_of, no_story, taken, left, keeper_of, again, joined, told, appended};
+ghost use Rattle.redo_log.specs.Marks.{IsSound, Looks, words_of, first_view, taken, left, keeper_of, again, shared, less, joined, appended, begun, raised};
 
-use crate::view::{Append, Appended, Cell, Keeper, Look, Mark, Open, Passes, Seat, Whole};
+use crate::view::{Append, Appended, Cell, Keeper, Look, Mark, Open, Passes, Seat, Shares, Whole};
 use redo_mark::Draft;
 use std::marker::Brand;
 use std::snapshot::Snapshot;
@@ -23,10 +23,9 @@ pub(crate) fn look<W: Wait>(cell: &Cell, rt: &W, seat: &mut Seat) -> [u64; 3]
 /// Opens a log that ends here, all of it durable.
 pub(crate) fn open<W: Wait>(cell: &Cell, rt: &W, seat: &mut Seat, end: u64, faults: u64)
     requires cell { seat.old.table_id ≡ cell.now.table.shared.table_id }
-    requires first { ((cell_view seat.old).keeps ≡ true) × ((cell_view seat.old).story ≡ no_story) }
+    requires first { cell_view seat.old ≡ first_view }
     ensures cell { seat.new.table_id ≡ seat.old.table_id }
-    ensures view { cell_view seat.new ≡ told (cell_view seat.old)
-        record { opened = end; bytes = []; durable = end; faults = faults } }
+    ensures view { cell_view seat.new ≡ begun (cell_view seat.old) end end faults }
 {
     cell.swap_as::<Open, W>(rt, seat, [end, end, faults]);
 }
@@ -45,6 +44,7 @@ pub(crate) fn append<W: Wait>(
     requires start { start ≡ end_of (cell_view seat.old).story }
     requires words { words ≡ words_of (longer (cell_view seat.old).story (sealed draft.value start)) }
     requires sound { IsSound (cell_view seat.old).story }
+    requires share { 0 < (cell_view seat.old).share + (cell_view seat.old).lost }
     ensures cell { seat.new.table_id ≡ seat.old.table_id }
     ensures view { cell_view seat.new ≡ appended (cell_view seat.old) (piece_at start (sealed draft.value start)) }
 {
@@ -66,6 +66,7 @@ fn append_piece<W: Wait, E: Appended>(
     requires start { start ≡ end_of (cell_view seat.old).story }
     requires words { words ≡ words_of (longer (cell_view seat.old).story (sealed draft.value start)) }
     requires sound { IsSound (cell_view seat.old).story }
+    requires share { 0 < (cell_view seat.old).share + (cell_view seat.old).lost }
     ensures cell { seat.new.table_id ≡ seat.old.table_id }
     ensures view { cell_view seat.new ≡ appended (cell_view seat.old) E.piece }
 {
@@ -87,9 +88,9 @@ pub(crate) fn mark<W: Wait>(
     requires end { end ≡ end_of (cell_view seat.old).story }
     requires later { ((cell_view seat.old).story.durable ≤ durable) × ((cell_view seat.old).story.faults ≤ faults) }
     requires sound { ((cell_view seat.old).story.opened ≤ durable) × (durable ≤ end) }
+    requires share { 0 < (cell_view seat.old).share + (cell_view seat.old).lost }
     ensures cell { seat.new.table_id ≡ seat.old.table_id }
-    ensures view { cell_view seat.new ≡ told (cell_view seat.old)
-        record (cell_view seat.old).story { durable = durable; faults = faults } }
+    ensures view { cell_view seat.new ≡ raised (cell_view seat.old) durable faults }
 {
     cell.swap_as::<Mark, W>(rt, seat, [end, durable, faults]);
 }
@@ -101,6 +102,16 @@ pub(crate) fn split(cell: &Cell, seat: &mut Seat) -> Seat
     ensures new { (result.table_id ≡ seat.old.table_id) × (cell_view result ≡ again (cell_view seat.old)) }
 {
     cell.split_pass::<Passes>(seat)
+}
+
+/// Another view, with the same marks and a share, where there is a second one.
+pub(crate) fn share(cell: &Cell, seat: &mut Seat) -> Seat
+    requires cell { seat.old.table_id ≡ cell.now.table.shared.table_id }
+    requires share { 0 < (cell_view seat.old).share + (cell_view seat.old).lost }
+    ensures old { (seat.new.table_id ≡ seat.old.table_id) × (cell_view seat.new ≡ less (cell_view seat.old)) }
+    ensures new { (result.table_id ≡ seat.old.table_id) × (cell_view result ≡ shared (cell_view seat.old)) }
+{
+    cell.split_pass::<Shares>(seat)
 }
 
 /// Takes in what another view knows.
@@ -116,7 +127,7 @@ pub(crate) fn join(cell: &Cell, seat: &mut Seat, mut other: Seat)
 /// The view becomes the keeper's.
 pub(crate) fn take(cell: &Cell, seat: &mut Seat, keeper: Seat)
     requires cell { (seat.old.table_id ≡ cell.now.table.shared.table_id) × (keeper.table_id ≡ cell.now.table.shared.table_id) }
-    requires keeper { ((cell_view keeper).keeps ≡ true) × (keeper.me.1 ≡ []) }
+    requires keeper { ((cell_view keeper).keeps ≡ true) × ((cell_view keeper).share ≡ 0) × (keeper.me.1 ≡ []) }
     ensures { (seat.new.table_id ≡ seat.old.table_id) × (cell_view seat.new ≡ taken (cell_view seat.old) (cell_view keeper)) }
 {
     cell.join_pass::<Keeper>(seat, keeper);

@@ -1,12 +1,14 @@
 //! What a pass does in its turn, when its view is the keeper's and the log is in its hands.
 ghost use Rattle.std.specs.Prelude.{◌≡◌, ◌≤◌, ◌<◌, ◌+◌, ◌++◌, ◌^◌, ℕ, [], ◌∷◌, length, All, IfOk, IfErr, OnErr, Err};
+ghost use Rattle.page_ids.specs.declared.limits.TheConstants.{LAST_LSN};
 ghost use Rattle.crossbeam_utils.specs.Seq.{cell_view};
 ghost use Rattle.redo_mark.specs.Records.{sealed};
-ghost use Rattle.redo_mark.specs.Logs.{IsSpan, IsFault};
+ghost use Rattle.redo_mark.specs.Logs.{IsSpan};
 ghost use Rattle.redo_log.specs.Story.{piece_at};
-ghost use Rattle.redo_log.specs.Passes.{GoesOn, known_of};
+ghost use Rattle.redo_log.specs.Marks.{bytes_of};
+ghost use Rattle.redo_log.specs.Passes.{GoesOn, MetFault, known_of};
 ghost use Rattle.redo_log.specs.Turns.{IsTurn, IsSameLog};
-ghost use Rattle.redo_log.specs.Ends.{IsWithin};
+ghost use Rattle.redo_log.specs.Ends.{IsWithin, shares_of, sizes_of, mets_of};
 
 use crate::passes::RedoPass;
 use crate::steps;
@@ -25,13 +27,15 @@ pub(crate) fn append<R: RedoDisk, W: Wait>(
 ) -> Result<Span, LogSpent>
     requires cell { seat.old.table_id ≡ cell.now.table.shared.table_id }
     requires turn { IsTurn (cell_view seat.old) log.old.seen }
+    requires share { 0 < (cell_view seat.old).share + (cell_view seat.old).lost }
     ensures turn { IsTurn (cell_view seat.new) log.new.seen }
     ensures same { IsSameLog log.old log.new }
     ensures goes { GoesOn (known_of seat.old.table_id (cell_view seat.old)) (known_of seat.new.table_id (cell_view seat.new)) }
     ensures span { IfOk result (IsSpan (cell_view seat.old).end (cell_view seat.new).end (length draft + 8)) }
     ensures pieces { IfOk result (λ s. (cell_view seat.new).pieces ≡ (cell_view seat.old).pieces ++ piece_at s.start (sealed draft s.start) ∷ []) }
-    ensures spent { IfErr result (λ e. (e.end ≡ (cell_view seat.new).end) × (2 ^ 63 < e.end + length draft + 8)) }
+    ensures spent { IfErr result (λ e. (e.end ≡ (cell_view seat.new).end) × (LAST_LSN < e.end + length draft + 8)) }
     ensures err { OnErr result ((cell_view seat.new).pieces ≡ (cell_view seat.old).pieces) }
+    ensures unused { (cell_view seat.new).met ≡ (cell_view seat.old).met }
 {
     let told = Snapshot::of(&draft);
     let span = log.append(draft)?;
@@ -51,6 +55,7 @@ pub(crate) fn cover<R: RedoDisk, W: Wait>(
 ) -> Result<u64, CoverErr>
     requires cell { seat.old.table_id ≡ cell.now.table.shared.table_id }
     requires turn { IsTurn (cell_view seat.old) log.old.seen }
+    requires share { 0 < (cell_view seat.old).share + (cell_view seat.old).lost }
     ensures turn { IsTurn (cell_view seat.new) log.new.seen }
     ensures same { IsSameLog log.old log.new }
     ensures goes { GoesOn (known_of seat.old.table_id (cell_view seat.old)) (known_of seat.new.table_id (cell_view seat.new)) }
@@ -58,8 +63,9 @@ pub(crate) fn cover<R: RedoDisk, W: Wait>(
     ensures ok { IfOk result (λ upto. (upto ≡ (cell_view seat.new).durable) × (lsn ≤ upto) × (upto ≤ (cell_view seat.new).end)) }
     ensures beyond { (l end : ℕ) → result ≡ Err (CoverErr.BeyondEnd l end)
         → (l ≡ lsn) × (end ≡ (cell_view seat.new).end) × (end < lsn) }
+    ensures unused { (l end : ℕ) → result ≡ Err (CoverErr.BeyondEnd l end) → (cell_view seat.new).met ≡ (cell_view seat.old).met }
     ensures fault { (before after : ℕ) → result ≡ Err (CoverErr.Fault before after)
-        → IsFault (cell_view seat.old).faults (cell_view seat.new).faults before after
+        → MetFault (known_of seat.old.table_id (cell_view seat.old)) (known_of seat.new.table_id (cell_view seat.new)) before after
         × (lsn ≤ (cell_view seat.new).end) × ((cell_view seat.new).durable < lsn) }
 {
     let answer = log.cover(lsn);
@@ -78,6 +84,9 @@ pub(crate) fn gather(cell: &Cell, keeper: &mut Seat, mut passes: Vec<RedoPass>)
     ensures cell { keeper.new.table_id ≡ keeper.old.table_id }
     ensures same { ((cell_view keeper.new).keeps ≡ (cell_view keeper.old).keeps) × ((cell_view keeper.new).story ≡ (cell_view keeper.old).story) }
     ensures passes { All (IsWithin (cell_view keeper.new)) passes.items }
+    ensures shares { (cell_view keeper.new).share ≡ (cell_view keeper.old).share + shares_of passes.items }
+    ensures sizes { bytes_of (cell_view keeper.new) ≡ bytes_of (cell_view keeper.old) + sizes_of passes.items }
+    ensures mets { (cell_view keeper.new).met ≡ (cell_view keeper.old).met + mets_of passes.items }
 {
     while let Some(RedoPass { seat }) = passes.pop() {
         steps::join(cell, keeper, seat);

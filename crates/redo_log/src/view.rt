@@ -13,6 +13,9 @@ pub struct Piece {
     pub bytes: LinkedList<u64>,
 }
 
+/// The shares of all passes of a log together.
+pub const SHARES: u64 = 1 << 32;
+
 /// A log: where it ended at its opening, its bytes from there on, its durable mark, and its device's count of faults. No value of it is
 /// made.
 pub struct Story {
@@ -31,8 +34,14 @@ pub struct View {
     pub end: u64,
     pub durable: u64,
     pub faults: u64,
+    /// How many of these faults are its own.
+    pub met: u64,
     /// Its records.
     pub pieces: LinkedList<Piece>,
+    /// Its share in the passes of the log, and how many shares it knows to be lost. Where none is lost, a view without a share has no
+    /// record.
+    pub share: u64,
+    pub lost: u64,
 }
 
 /// The end, the durable mark and the count of faults.
@@ -104,7 +113,7 @@ impl Outcome<[u64; 3], View> for Mark {
     ghost then = { Rises };
 }
 
-/// Another pass with the same marks, and a pass that takes in another.
+/// A view with the same marks and no share, and a view that takes in another.
 pub(crate) struct Passes;
 
 impl Split<View> for Passes {
@@ -121,6 +130,17 @@ impl Join<View> for Passes {
     ghost both = { joined };
 
     ghost spent = { blank };
+}
+
+/// Another pass with the same marks and a share of its own.
+pub(crate) struct Shares;
+
+impl Split<View> for Shares {
+    ghost use Rattle.redo_log.specs.Marks.{less, shared};
+
+    ghost left = { less };
+
+    ghost right = { shared };
 }
 
 /// All that a pass knows goes to a new one, which may be joined.

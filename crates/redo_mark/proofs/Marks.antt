@@ -1,8 +1,10 @@
 -- The log's bytes and marks.
 use Rattle.std.proofs.Common.{◌≡◌, ℕ, List, [], ◌++◌, ◌+◌, ◌-◌, ◌≤◌, length, take, drop, Some, None, Option, IfSome, IsSomeAnd, MatchOption, Vec, refl, ap, ◌∙◌, sym, arith, append_assoc, slice_range}
 use Rattle.std.proofs.lemmas.List.{drop_all, append-nil, take_at, length-append, length-take-le}
+use Rattle.std.proofs.lemmas.Grind.{flat_map-append}
 use Rattle.std.specs.declared.alloc.Global.{Global}
 use Rattle.redo_mark.specs.Device.{Told, Tells, IsOpening}
+use Rattle.redo_mark.specs.Records.{sealed}
 use Rattle.redo_mark.specs.Logs.{Seen, Grows, IsLater, IsLonger, IsMeasured, Holds, IsKept, IsAllKept, IsKeptAt}
 use Rattle.redo_mark.specs.Pending.{IsGrown, IsLog, IsSettled, IsUncovered, IsMadeDurable, bytes_of, joined}
 use Rattle.redo_mark.proofs.Telling.{known, some_is_not_none, tells_then}
@@ -69,6 +71,13 @@ settled_fresh opened durable (Some t) is inside = record {
   where
     empty : (xs : List ℕ) → slice_range xs opened durable ≡ []
     empty xs = let none : durable - opened ≡ 0 = omega (arith, is) in ap (λ k. take k (drop opened xs)) none
+
+-- the bytes of the records where one more is behind them, and its size
+pub joined_more : (pending node new : List (Vec ℕ Global)) (piece : List ℕ) → new ≡ pending ++ node → joined node ≡ piece → joined new ≡ joined pending ++ piece
+joined_more pending node new piece whole is = ap joined whole ∙ flat_map-append (λ v. v.items) pending node ∙ ap (λ l. joined pending ++ l) is
+
+pub sealed_size : (head : List ℕ) (start n : ℕ) → n ≡ length head → length (sealed head start) ≡ n + 8
+sealed_size head start n len = length-append head _ ∙ ap (λ k. k + 8) (sym len)
 
 -- a record that was appended stands at the end
 pub holds_appended : (first durable end opened reach faults : ℕ) (opening told : Option Told) (pending new : List (Vec ℕ Global)) (piece : List ℕ)
@@ -160,6 +169,16 @@ bytes_durable opened durable (Some s) (Some t) pending le inside was step =
     ∙ ap (λ l. slice_range l opened to) step.kept
     ∙ slice_more opened durable t.written s.written (joined pending) le inside step.written
     ∙ ap (λ l. l ++ joined pending) was.same)
+
+-- and so they are by the log's marks
+pub bytes_covered : (opened opened' first durable end : ℕ) (old new : Option Told) (pending none : List (Vec ℕ Global)) → opened' ≡ opened → first + opened ≤ durable
+    → end ≡ durable + length (joined pending) → none ≡ [] → IfSome old (λ t. durable - first ≤ length t.written) → IfSome old (IsSettled opened (durable - first))
+    → Tells old new (IsMadeDurable (durable - first) (joined pending)) → bytes_of opened' (end - first) new none ≡ bytes_of opened (durable - first) old pending
+bytes_covered opened opened' first durable end old new pending none same low ends cleared inside was step =
+    let to : end - first ≡ durable - first + length (joined pending) = omega (arith, low, ends) in
+    ap (λ n. bytes_of n (end - first) new none) same ∙ ap (λ n. bytes_of opened n new none) to
+    ∙ ap (λ l. bytes_of opened (durable - first + length (joined pending)) new l) cleared
+    ∙ bytes_durable opened (durable - first) old new pending (omega (arith, low)) inside was step
 
 pub settled_durable : (opened durable to : ℕ) (records : List ℕ) (old new : Option Told) → IfSome new (λ t. to ≤ length t.written)
     → Tells old new (IsMadeDurable durable records) → IfSome new (IsSettled opened to)

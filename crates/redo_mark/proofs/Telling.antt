@@ -2,9 +2,7 @@
 use Rattle.std.proofs.Common.{◌≡◌, ℕ, List, [], ◌++◌, ◌+◌, ◌≤◌, length, take, drop, max, slice_range, ◌-◌, Some, None, Option, IfSome, refl, ap, ◌∙◌, sym, arith, append_assoc}
 use Rattle.std.proofs.lemmas.List.{append-nil, length-append, length-take, length-take-le, length-drop, take-append-drop}
 use Rattle.std.proofs.lemmas.List.Folds.{drop_split}
-use Rattle.redo_mark.specs.Device.{Told, Tells, IsTorn, IsSame, put_at}
-use Rattle.redo_mark.specs.Pending.{IsAppended, IsUncovered}
-use Rattle.redo_mark.proofs.Slices.{front_of_more}
+use Rattle.redo_mark.specs.Device.{Told, Tells, IsTorn, put_at}
 
 pub known : (told : Option Told) → IfSome told (λ s. Unit {0})
 known None = tt
@@ -34,16 +32,6 @@ pub record IsWriting (from at : ℕ) (rest records : List ℕ) (old new : Told) 
   pub front : take from new.written ≡ take from old.written
   pub short : length new.written ≤ max (length old.written) at
   pub kept : new.kept ≡ old.kept
-
-pub written_not_synced : (from : ℕ) (records : List ℕ) (first old new : Option Told) → IfSome first (λ s. from ≤ length s.written)
-    → Tells first old (IsAppended from records) → Tells old new IsSame → Tells first new (IsUncovered from (from + length records))
-written_not_synced from records first old new inside =
-    tells_then (IsAppended from records) IsSame (IsUncovered from (from + length records)) (λ s. from ≤ length s.written) (λ t. Unit {0}) first old new inside (known old)
-    (λ s t u a b p q. record {
-      written = ap (λ x. take from x.written) q ∙ front_of_more from (length records) t.written s.written records a p.written;
-      short = (let l = ap (λ x. length x.written) q in omega (arith, l, p.short));
-      kept = ap (λ x. x.kept) q ∙ p.kept;
-    })
 
 -- anything may stand in the range of a write that failed: a front of its piece too
 pub torn_by_part : (at count : ℕ) (piece : List ℕ) (old new : Told) → at ≤ length old.written → length piece ≤ count → new.written ≡ put_at at piece old.written

@@ -1,6 +1,7 @@
 -- What is known of a log: how far it is durable, where it ends, and its bytes from the end of its opening on.
 use Rattle.std.specs.Prelude.{ℕ, List, [], ◌++◌, ◌≡◌, ◌≤◌, ◌+◌, ◌-◌, ◌^◌, length, take, Option, None, Some, IfSome, MatchOption, IsSomeAnd}
 use Rattle.page_ids.specs.Faults.{Rose}
+use Rattle.page_ids.specs.declared.limits.TheConstants.{LAST_LSN}
 use Rattle.redo_mark.specs.Device.{Told, Tells, IsOpening}
 use Rattle.redo_mark.specs.Records.{AreRecords}
 use Rattle.redo_mark.specs.declared.record.Span.{Span}
@@ -85,7 +86,7 @@ pub record IsSpan (before after count : ℕ) (s : Span) : Type 0 where
   pub start : before ≤ s.start
   pub end : s.end ≡ s.start + count
   pub within : s.end ≤ after
-  pub limit : after ≤ 2 ^ 63
+  pub limit : after ≤ LAST_LSN
 
 -- the counts before and after a device's call that failed, within a call in which the count went from `old` to `new`
 pub record IsFault (old new before after : ℕ) : Type 0 where

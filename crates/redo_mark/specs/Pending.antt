@@ -24,6 +24,7 @@ use Rattle.std.specs.Prelude.{
 }
 use Rattle.std.specs.List.{flat_map}
 use Rattle.std.specs.declared.alloc.Global.{Global}
+use Rattle.page_ids.specs.declared.limits.TheConstants.{LAST_LSN}
 use Rattle.redo_mark.specs.Device.{Told, Tells, IsOpening}
 use Rattle.redo_mark.specs.Records.{Fits, head_of, AreRecords}
 use Rattle.redo_mark.specs.declared.record.Change.{Change}
@@ -41,12 +42,6 @@ bytes_of opened durable (Some t) pending = Some (slice_range t.kept opened durab
 pub record IsSettled (opened durable : ℕ) (t : Told) : Type 0 where
   pub long : durable ≤ length t.kept
   pub same : slice_range t.written opened durable ≡ slice_range t.kept opened durable
-
--- the records were written from this offset on
-pub record IsAppended (from : ℕ) (records : List ℕ) (old new : Told) : Type 0 where
-  pub written : take (from + length records) new.written ≡ take from old.written ++ records
-  pub short : length new.written ≤ max (length old.written) (from + length records)
-  pub kept : new.kept ≡ old.kept
 
 -- nothing was written but between two offsets, and nothing synced
 pub record IsUncovered (from to : ℕ) (old new : Told) : Type 0 where
@@ -72,7 +67,7 @@ pub record IsLog (first durable end opened reach : ℕ) (opening told : Option T
     : Type 0 where
   pub low : first + opened ≤ durable
   pub ends : end ≡ durable + length (joined pending)
-  pub limit : end ≤ 2 ^ 63
+  pub limit : end ≤ LAST_LSN
   pub few : length pending ≤ length (joined pending)
   pub reached : durable - first ≤ reach
   pub settled : IfSome told (IsSettled opened (durable - first))

@@ -1,6 +1,7 @@
 -- A record of the log: kind, space, page, place, count, bytes, and the LSN at which it ends. Numbers are big-endian.
 use Rattle.std.specs.Prelude.{ℕ, List, [], ◌∷◌, ◌++◌, ◌≡◌, ◌<◌, ◌+◌, ◌^◌, length}
 use Rattle.std.specs.Int.{w16, w32, w64, to_be_bytes}
+use Rattle.page_ids.specs.declared.limits.TheConstants.{RECORD_BYTES}
 use Rattle.redo_mark.specs.declared.record.ChangeKind.{ChangeKind}
 use Rattle.redo_mark.specs.declared.record.ChangeKind.TheVariants.{Put, Create}
 use Rattle.redo_mark.specs.declared.record.Change.{Change}
@@ -38,7 +39,7 @@ record_of c start = sealed (head_of c) start
 -- the records of these changes, one behind the other from this LSN on
 abbrev pub records_of : List Change → ℕ → List ℕ
 records_of [] start = []
-records_of (c ∷ cs) start = record_of c start ++ records_of cs (start + 21 + length c.bytes)
+records_of (c ∷ cs) start = record_of c start ++ records_of cs (start + RECORD_BYTES + length c.bytes)
 
 abbrev pub AllFit : List Change → Type 0
 AllFit [] = Unit {0}

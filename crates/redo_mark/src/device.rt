@@ -1,6 +1,7 @@
 //! The log's device.
 ghost use Rattle.std.specs.Prelude.{◌≡◌, ◌≤◌, ◌+◌, ◌^◌, length, OnOk, OnErr};
 ghost use Rattle.page_ids.specs.Faults.{IsCounted};
+ghost use Rattle.page_ids.specs.declared.limits.TheConstants.{LAST_LSN};
 ghost use Rattle.redo_mark.specs.Device.{RedoSeen, Tells, IsPut, IsTorn, IsSynced, IsSame, IsSized};
 
 use page_ids::Failed;
@@ -15,7 +16,7 @@ pub trait RedoDisk: Send + Drop {
     /// Puts the piece at this offset. After a failure anything may stand in its range; what is kept stays.
     fn write_at(&mut self, at: u64, piece: &[u8]) -> Result<(), Failed>
         requires within { at ≤ (seen self.old).reach }
-        requires limit { at + length piece.now ≤ 2 ^ 63 }
+        requires limit { at + length piece.now ≤ LAST_LSN }
         ensures put { OnOk result (Tells (seen self.old).told (seen self.new).told (IsPut at piece.now)) }
         ensures torn { OnErr result (Tells (seen self.old).told (seen self.new).told (IsTorn at (length piece.now))) }
         ensures reach { (seen self.old).reach ≤ (seen self.new).reach }

@@ -1,6 +1,7 @@
 //! The log device in memory, which fails where it is told to.
 ghost use Rattle.std.specs.Prelude.{◌≡◌, ◌≤◌, ◌↔◌, ◌+◌, ◌/◌, ◌^◌, if◌then◌else◌, Contains, Some, None, length, OnOk, OnErr, IsErr, vec_len};
 ghost use Rattle.page_ids.specs.Faults.{IsCounted};
+ghost use Rattle.page_ids.specs.declared.limits.TheConstants.{LAST_LSN};
 ghost use Rattle.redo_mark.specs.Device.{Told, Tells, IsPut, IsTorn, IsSynced, IsSame, IsAsOpened, put_at};
 ghost use Rattle.redo_mark.specs.Memory.{kept_of, told_of, risen, IsCalled, IsExact, IsHalfPut};
 
@@ -107,7 +108,7 @@ impl RedoDisk for RedoMemory {
 
     fn write_at(&mut self, at: u64, piece: &[u8]) -> Result<(), Failed>
         requires within { at ≤ length self.old.written.items }
-        requires limit { at + length piece.now ≤ 2 ^ 63 }
+        requires limit { at + length piece.now ≤ LAST_LSN }
         ensures put { OnOk result (Tells (told_of self.old.written.items self.old.kept)
             (told_of self.new.written.items self.new.kept) (IsPut at piece.now)) }
         ensures torn { OnErr result (Tells (told_of self.old.written.items self.old.kept)

@@ -1,6 +1,7 @@
 //! Records are read back.
 ghost use Rattle.std.specs.Prelude.{◌≡◌, ◌≤◌, ◌<◌, ◌+◌, ◌^◌, ◌⊎◌, ◌↔◌, ℕ, List, All, length, IfOk, IfErr, Err, MatchResult};
 ghost use Rattle.page_ids.specs.Layout.{u32_at, u64_at};
+ghost use Rattle.page_ids.specs.declared.limits.TheConstants.{LAST_LSN, RECORD_BYTES};
 ghost use Rattle.redo_mark.specs.Records.{Fits, record_of};
 ghost use Rattle.redo_mark.specs.Reading.{u16_at, IsRecord, IsNoRecord, HasEnd, BeginsWith};
 ghost use Rattle.redo_mark.specs.declared.record.Change.{Change};
@@ -68,7 +69,7 @@ fn read_u64(bytes: &[u8], at: usize) -> u64
 
 /// The kind and the count of the record at the front of the bytes, or why none that starts at this LSN stands there.
 fn judge(bytes: &[u8], start: u64) -> Result<(ChangeKind, usize), ChangeErr>
-    requires limit { start ≤ 2 ^ 63 }
+    requires limit { start ≤ LAST_LSN }
     ensures found { IfOk result (λ r. HasEnd bytes.now start r.0 r.1) }
     ensures refused { IfErr result (IsNoRecord bytes.now start) }
 {
@@ -103,10 +104,10 @@ fn judge(bytes: &[u8], start: u64) -> Result<(ChangeKind, usize), ChangeErr>
 ///
 /// `at` and the bytes of a create record are handed on as they stand (InnoDB's `recv_parse_log_rec`).
 pub fn read_change(alloc: Global, bytes: &[u8], start: u64) -> Result<(Change, Span), ChangeErr>
-    requires limit { start ≤ 2 ^ 63 }
+    requires limit { start ≤ LAST_LSN }
     ensures record { IfOk result (λ r. IsRecord bytes.now start r.0) }
     ensures whole { IfOk result (λ r. Fits r.0 × BeginsWith bytes.now (record_of r.0 start)) }
-    ensures span { IfOk result (λ r. (r.1.start ≡ start) × (r.1.end ≡ start + 21 + length r.0.bytes)) }
+    ensures span { IfOk result (λ r. (r.1.start ≡ start) × (r.1.end ≡ start + RECORD_BYTES + length r.0.bytes)) }
     ensures exact { (c : Change) → Fits c → BeginsWith bytes.now (record_of c start)
         → MatchResult result (λ r. r.0 ≡ c) (λ e. e ≡ ChangeErr.OutOfMemory) }
     ensures refused { IfErr result (λ e. (e ≡ ChangeErr.OutOfMemory) ⊎ IsNoRecord bytes.now start e) }
@@ -130,6 +131,6 @@ pub fn read_change(alloc: Global, bytes: &[u8], start: u64) -> Result<(Change, S
 
 /// The fields at the front of bytes are those of a change's record exactly where the bytes begin with that record.
 pub fn records_are_whole()
-    ensures { (bytes : List ℕ) (start : ℕ) (c : Change) → All (λ b. b < 256) bytes → start ≤ 2 ^ 63
+    ensures { (bytes : List ℕ) (start : ℕ) (c : Change) → All (λ b. b < 256) bytes → start ≤ LAST_LSN
         → (IsRecord bytes start c ↔ (Fits c × BeginsWith bytes (record_of c start))) }
 {}

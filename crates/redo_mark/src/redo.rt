@@ -5,21 +5,19 @@
 ghost use Rattle.std.specs.Prelude.{◌≡◌, ◌≤◌, ◌<◌, ◌+◌, ◌++◌, ◌^◌, ℕ, List, length, OnOk, OnErr, IfOk, IfErr, IsOk, IsErr};
 ghost use Rattle.std.specs.Prelude.{Err, vec_len, vec_capacity};
 ghost use Rattle.std.specs.Int.{w64, to_be_bytes};
+ghost use Rattle.page_ids.specs.declared.limits.TheConstants.{LAST_LSN};
 ghost use Rattle.redo_mark.specs.Device.{Told, Tells, IsSynced, IsSame};
 ghost use Rattle.redo_mark.specs.Records.{sealed};
 ghost use Rattle.redo_mark.specs.Logs.{IsFresh, IsLater, IsLonger, IsMeasured, Holds, IsKept, IsAllKept, IsKeptAt, IsWhole, IsSpan, IsFault};
-ghost use Rattle.redo_mark.specs.Pending.{IsAppended, IsUncovered, IsMadeDurable, IsDraft, joined};
+ghost use Rattle.redo_mark.specs.Pending.{IsUncovered, IsMadeDurable, IsDraft, joined};
 
 use crate::device::RedoDisk;
 use crate::record::{Draft, Span};
-use page_ids::OutOfMemory;
+use page_ids::{LAST_LSN, OutOfMemory};
 use std::alloc::Global;
 use std::collections::LinkedList;
 use std::marker::Model;
 use std::snapshot::Snapshot;
-
-/// No LSN is above this.
-const LSN_MAX: u64 = 1 << 63;
 
 /// Shows that the log is durable up to an LSN: the device keeps every byte of it below. Only `Redo::cover` makes one.
 #[derive(Debug, Drop)]
@@ -143,36 +141,6 @@ fn seal_node(node: &mut LinkedList<Vec<u8>>, end: u64)
     }
 }
 
-/// Writes the records one behind the other, from this offset on.
-fn write_all<R: RedoDisk>(
-    disk: &mut R,
-    from: u64,
-    pending: &LinkedList<Vec<u8>>,
-) -> Result<(), Fault>
-    requires within { from ≤ (R.seen disk.old).reach }
-    requires limit { from + length (joined pending.now) ≤ 2 ^ 63 }
-    ensures ok { OnOk result (Tells (R.seen disk.old).told (R.seen disk.new).told (IsAppended from (joined pending.now))) }
-    ensures err { OnErr result (Tells (R.seen disk.old).told (R.seen disk.new).told
-        (IsUncovered from (from + length (joined pending.now)))) }
-    ensures reach { (R.seen disk.old).reach ≤ (R.seen disk.new).reach }
-    ensures reached { OnOk result (from + length (joined pending.now) ≤ (R.seen disk.new).reach) }
-    ensures opened { (R.seen disk.new).opened ≡ (R.seen disk.old).opened }
-    ensures later { (R.seen disk.old).faults ≤ (R.seen disk.new).faults }
-    ensures fault { IfErr result (λ f. IsFault (R.seen disk.old).faults (R.seen disk.new).faults f.before f.after
-        × (f.after ≡ (R.seen disk.new).faults)) }
-{
-    let mut at = from;
-    for bytes in pending.iter() {
-        let before = disk.faults();
-        if disk.write_at(at, bytes.as_slice()).is_err() {
-            let after = disk.faults();
-            return Err(Fault { before, after });
-        }
-        at += bytes.len() as u64;
-    }
-    Ok(())
-}
-
 /// Syncs the device.
 fn sync<R: RedoDisk>(disk: &mut R) -> Result<(), Fault>
     ensures ok { OnOk result (Tells (R.seen disk.old).told (R.seen disk.new).told IsSynced) }
@@ -191,14 +159,14 @@ fn sync<R: RedoDisk>(disk: &mut R) -> Result<(), Fault>
     Ok(())
 }
 
-/// Writes the records one behind the other, and syncs.
+/// Writes the records one behind the other, from this offset on, and syncs.
 fn write_through<R: RedoDisk>(
     disk: &mut R,
     from: u64,
     pending: &LinkedList<Vec<u8>>,
 ) -> Result<(), Fault>
     requires within { from ≤ (R.seen disk.old).reach }
-    requires limit { from + length (joined pending.now) ≤ 2 ^ 63 }
+    requires limit { from + length (joined pending.now) ≤ LAST_LSN }
     ensures ok { OnOk result (Tells (R.seen disk.old).told (R.seen disk.new).told (IsMadeDurable from (joined pending.now))) }
     ensures err { OnErr result (Tells (R.seen disk.old).told (R.seen disk.new).told
         (IsUncovered from (from + length (joined pending.now)))) }
@@ -209,14 +177,22 @@ fn write_through<R: RedoDisk>(
     ensures fault { IfErr result (λ f. IsFault (R.seen disk.old).faults (R.seen disk.new).faults f.before f.after
         × (f.after ≡ (R.seen disk.new).faults)) }
 {
-    write_all(disk, from, pending)?;
+    let mut at = from;
+    for bytes in pending.iter() {
+        let before = disk.faults();
+        if disk.write_at(at, bytes.as_slice()).is_err() {
+            let after = disk.faults();
+            return Err(Fault { before, after });
+        }
+        at += bytes.len() as u64;
+    }
     sync(disk)
 }
 
 impl<R: RedoDisk> Redo<R> {
     /// The log on a device, all of it durable. `first` is the LSN of the device's first byte.
     pub fn start(alloc: Global, disk: R, first: u64) -> Result<Redo<R>, (OutOfMemory, R)>
-        requires limit { first + (R.seen disk).opened ≤ 2 ^ 63 }
+        requires limit { first + (R.seen disk).opened ≤ LAST_LSN }
         ensures fresh { IfOk result (λ r. IsFresh r.seen first (R.seen disk).opened (R.seen disk).faults) }
         ensures kept { IfOk result (λ r. IsKept r.seen (R.seen r.disk).told) }
         ensures disk { IfOk result (λ r. (r.disk ≡ disk) × (r.opening ≡ (R.seen disk).told)) }
@@ -247,14 +223,14 @@ impl<R: RedoDisk> Redo<R> {
         ensures disk { (self.new.disk ≡ self.old.disk) × (self.new.opening ≡ self.old.opening) }
         ensures mark { self.new.seen.durable ≡ self.old.seen.durable }
         ensures spent { IfErr result (λ e. (self.old.seen.end ≤ e.end) × (e.end ≤ self.new.seen.end)
-            × (2 ^ 63 < e.end + length draft + 8)) }
-        ensures full { 2 ^ 63 < self.old.seen.end + length draft + 8 → IsErr result }
+            × (LAST_LSN < e.end + length draft + 8)) }
+        ensures full { LAST_LSN < self.old.seen.end + length draft + 8 → IsErr result }
         ensures err { OnErr result (self.new ≡ self.old) }
     {
         let mut node = draft.into_node();
         let start = self.end;
         let len = draft_len(&node) + 8;
-        if LSN_MAX - start < len {
+        if LAST_LSN - start < len {
             return Err(LogSpent { end: start });
         }
         let end = start + len;

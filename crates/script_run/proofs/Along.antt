@@ -28,6 +28,7 @@ use Rattle.desk.specs.Base.{Opened}
 use Rattle.desk.specs.Changes.{IsPutBy, IsSpentBy, WritesBack, IsCleanedBy, changed_row}
 use Rattle.desk.specs.Checks.{IsChecked}
 use Rattle.desk.specs.Ledger.{entry_behind}
+use Rattle.desk.specs.Moments.{IsEmptyHanded}
 use Rattle.desk.specs.Steps.{IsHit, IsLoaded, IsAppended, next_entry, row_in, loaded_row}
 use Rattle.desk.specs.Tied.{AreTied}
 use Rattle.desk.specs.Victims.{IsHad}
@@ -74,7 +75,7 @@ abbrev pub Keeps : {D : Type 0} → (D → DiskSeen) → State D → State D →
 Keeps seen old new before after = (o : Opened) → IsBehindIt seen o old before → IsBehindIt seen o new after
 
 abbrev pub Ties : {D : Type 0} → (D → DiskSeen) → State D → Plain → Type 0
-Ties seen desk frames = AreTied seen (seen_of frames) desk
+Ties seen desk frames = AreTied seen (seen_of frames) desk × IsEmptyHanded desk
 
 -- a call's entries came, and its answer
 along_by : {D : Type 0} (seen : D → DiskSeen) (old new : State D) (before after : Plain) (was is : Seen) (w : Working) (k : Kind) → Left seen old new → length new.history ≤ length old.history + 16385
@@ -86,7 +87,7 @@ along_by seen old new before after was is w k left grown stays behind tied later
   grown = grown;
   pass = refl;
   next = refl;
-  ready = λ ready. let is = stays ready in record { tied = tied; homes = is.0.homes; apart = is.0.apart; housed = is.0.housed; held = is.0.held; few = is.1 };
+  ready = λ ready. let is = stays ready in record { tied = tied.0; hands = tied.1; homes = is.0.homes; apart = is.0.apart; housed = is.0.housed; held = is.0.held; few = is.1 };
   behind = behind;
   log = later;
   known = λ _. known;
@@ -242,7 +243,8 @@ along_checked seen old new frames log w lsn checked behind tied known =
       next = refl;
       ready = λ ready.
           let is = stays_entry old new frames.rows w k checked.entry (check_leaves lsn) refl ready.few (stays_ready seen old frames w.fixed ready) in
-          record { tied = tied ready.tied; homes = is.0.homes; apart = is.0.apart; housed = is.0.housed; held = is.0.held; few = is.1 };
+          let still = tied (ready.tied, ready.hands) in
+          record { tied = still.0; hands = still.1; homes = is.0.homes; apart = is.0.apart; housed = is.0.housed; held = is.0.held; few = is.1 };
       behind = behind;
       log = later_here log;
       known = λ _. known;
@@ -263,9 +265,9 @@ along_kept seen desk frames log w n kept =
       known = λ was. was;
     }
 
-pub along_more : {D : Type 0} (seen : D → DiskSeen) (n : ℕ) (old mid new : State D) (before between after : Plain) (was then is : Seen) (w u v : Working)
-    → Along seen n old mid before between was then w u → Along seen 1 mid new between after then is u v → Along seen (n + 1) old new before after was is w v
-along_more seen n old mid new before between after was then is w u v a b = record {
+pub along_more : {D : Type 0} (seen : D → DiskSeen) (n m : ℕ) (old mid new : State D) (before between after : Plain) (was then is : Seen) (w u v : Working)
+    → Along seen n old mid before between was then w u → Along seen m mid new between after then is u v → Along seen (n + m) old new before after was is w v
+along_more seen n m old mid new before between after was then is w u v a b = record {
   left = left_more seen old mid new a.left b.left;
   grown = omega (arith, a.grown, b.grown);
   pass = b.pass ∙ a.pass;

@@ -1,5 +1,5 @@
 -- How a caller's own events number its calls.
-use Rattle.std.proofs.Common.{◌≡◌, ◌<◌, ◌≤◌, ℕ, Bool, true, false, cond, List, [], ◌∷◌, ◌++◌, ◌+◌, ◌&&◌, ◌||◌, ◌⊎◌, inl, inr, Option, Some, length, refl, ap, ◌∙◌, sym, subst, eq-eqb, nat_eq, nat_le, IfSome, arith}
+use Rattle.std.proofs.Common.{◌≡◌, ◌<◌, ◌≤◌, ℕ, Bool, true, false, cond, List, [], ◌∷◌, ◌++◌, ◌+◌, ◌&&◌, ◌||◌, inl, inr, Option, Some, length, refl, ap, ◌∙◌, sym, subst, eq-eqb, nat_eq, nat_le, IfSome, arith}
 use Rattle.std.proofs.lemmas.Bool.Decides.{nat_tests}
 use Rattle.page_ids.specs.declared.config.Config.{Config}
 use Rattle.page_ids.specs.declared.limits.TheConstants.{LAST_PLACE, LIMIT}

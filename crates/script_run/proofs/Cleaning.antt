@@ -55,10 +55,10 @@ module _ {D : Type 0} (seen : D → DiskSeen) (o : Opening) (start : Start) (old
       (subst (W o.first) (sym so.entries_are) (subst F so.first_is cleaned.writes))
 
   -- no frame is in hand behind them
-  hand_behind : (n : ℕ) (mid : List Entry) (f : Wrote n mid) → (book old.config mid).hand ≡ None
+  hand_behind : (n : ℕ) (mid : List Entry) (f : Wrote n mid) → (book old.config mid).hands ≡ []
   hand_behind n mid f =
-      let H : Config → List Entry → Type 0 = λ c h. (book c h).hand ≡ None in
-      subst (λ c. H c mid) (sym so.config_is) (ap (λ (b : Book). b.hand) f.book_is ∙ subst (λ h. H o.config h) (sym so.entries_are) (subst (λ c. H c old.history) so.config_is (so.empty_handed refl)))
+      let H : Config → List Entry → Type 0 = λ c h. (book c h).hands ≡ [] in
+      subst (λ c. H c mid) (sym so.config_is) (ap (λ (b : Book). b.hands) f.book_is ∙ subst (λ h. H o.config h) (sym so.entries_are) (subst (λ c. H c old.history) so.config_is (so.empty_handed refl)))
 
   -- what is so between the last of them and the answer
   so_far_writes : (n : ℕ) (mid : List Entry) (f : Wrote n mid) → IsLogged is mid → SoFar seen o start (placed old new mid) is w (f.writes ++ past) f.made

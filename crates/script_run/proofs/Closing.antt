@@ -1,5 +1,5 @@
 -- The answer of a clean behind its writes: that it is done, or its refusal by a fault.
-use Rattle.std.proofs.Common.{◌≡◌, ℕ, suc, Bool, true, false, List, [], ◌∷◌, ◌++◌, ◌+◌, ◌≤◌, inr, Option, None, Some, IfSome, IsSome, length, take, refl, ap, ◌∙◌, sym, subst, arith}
+use Rattle.std.proofs.Common.{◌≡◌, ℕ, suc, Bool, true, false, List, [], ◌∷◌, ◌++◌, ◌+◌, ◌≤◌, inl, Option, None, Some, IfSome, IsSome, length, take, refl, ap, ◌∙◌, sym, subst, arith}
 use Rattle.std.specs.Option.{option_map, option_to_list}
 use Rattle.page_ids.specs.Faults.{Rose}
 use Rattle.page_ids.specs.Needs.{clean_need}
@@ -51,7 +51,7 @@ pub record Closes (by : Caller) (start : Start) (disk log : ℕ) (o : Opening) (
   pub promised : IsOfSpaces start.pages k × IsPromisedKind o (entries past) (made_by by.number (own by.pass past)) k
   pub within : IsKindWithin start disk log k
   pub steady : leaves_chunks k ≡ true
-  pub handless : (per : ℕ) (e : Entry) (b : Book) → b.hand ≡ None → (book_after per e k b).hand ≡ None
+  pub handless : (per : ℕ) (e : Entry) (b : Book) → b.hands ≡ [] → (book_after per e k b).hands ≡ []
 
 refused_closes : (by : Caller) (start : Start) (disk_was disk_is log_was log_is : ℕ) (o : Opening) (past : List Event) (bound : ℕ) (log : Bool) (before after : ℕ) → start.disk_faults ≤ disk_was → start.log_faults ≤ log_was
     → disk_faults (entries past) ≤ disk_was → log_faults (entries past) ≤ log_was → Rose before after → RoseSo log disk_was disk_is log_was log_is before after
@@ -70,7 +70,7 @@ refused_closes by start disk_was disk_is log_was log_is o past bound true before
   promised = (record { inside = tt; told = tt }, record { own = refl; filed = refl; excused = tt; rising = tt; begun = begun });
   within = (omega (arith, low_log, counts.first), omega (arith, counts.last));
   steady = refl;
-  handless = λ per e b none. refused_hand per e (call.Clean bound) (cause.RedoFault before after) b (inr none);
+  handless = λ per e b none. refused_hand per e (call.Clean bound) (cause.RedoFault before after) b (inl none) (inl none);
 }
 refused_closes by start disk_was disk_is log_was log_is o past bound false before after low low_log last last_log rose counts reached begun = record {
   answers = refl;
@@ -85,7 +85,7 @@ refused_closes by start disk_was disk_is log_was log_is o past bound false befor
   promised = (record { inside = tt; told = tt }, record { own = refl; filed = refl; excused = tt; rising = tt; begun = begun });
   within = (omega (arith, low, counts.first), omega (arith, counts.last));
   steady = refl;
-  handless = λ per e b none. refused_hand per e (call.Clean bound) (cause.DiskFault before after) b (inr none);
+  handless = λ per e b none. refused_hand per e (call.Clean bound) (cause.DiskFault before after) b (inl none) (inl none);
 }
 
 taken_first : (made : List Entry) (n : ℕ) (rest pages : List PageId) → pages ≡ written_pages made ++ rest → length (written_pages made) ≡ n → take n pages ≡ written_pages made

@@ -34,7 +34,7 @@ use Rattle.trail.specs.Preceding.{MayPrecede, MayPrecedeRefusal, kinds}
 use Rattle.trail.specs.Still.{IsUnfixed}
 use Rattle.trail.specs.Covered.{IsCoveredWrite}
 use Rattle.trail.specs.Needs.{HasPlaces, need_of}
-use Rattle.trail.specs.Spaces.{IsInside, sought_page}
+use Rattle.trail.specs.Spaces.{IsNotMissing, sought_page}
 use Rattle.trail.specs.Causes.{full_cause, is_exact, unheld_cause, IsOther, IsReached, IsRefused, IsCausedKind}
 use Rattle.trail.specs.Withdrawal.{IsWithdrawalKind}
 use Rattle.trail.specs.Alone.{is_busy, IsTrueKind, IsTrueNote, IsTrueRefusal}
@@ -44,7 +44,7 @@ use Rattle.trail.specs.Words.{AreTrueWords, Hint, cause_tag, cause_words, hint_o
 use Rattle.trail.specs.Book.{book, frame_in_turn, is_late, next_frame}
 use Rattle.trail.specs.Laws.{IsLawful}
 use Rattle.trail.specs.Promises.{IsFairRefusal, IsOfSpaces, IsPromised, HasExcuse, TellsRising, is_excuse, is_own, is_noted}
-use Rattle.trail.proofs.Judging.{inside_of, outside_of, spaces_of}
+use Rattle.trail.proofs.Judging.{first_of, inside_of, outside_of, spaces_of, turn_of, used_up}
 use Rattle.desk.specs.declared.calls.Granted.{Granted}
 use Rattle.desk.specs.declared.calls.PutDone.{PutDone}
 use Rattle.frame_words.specs.Plain.{Plain, seen_of}
@@ -104,7 +104,7 @@ pub reached : {D : Type 0} (seen : D → DiskSeen) (o : Opening) (start : Start)
 reached seen o start desk log w past pending base asked need so stands is room inside =
     record {
       places = places seen o start desk log w past pending base asked need so stands is room;
-      inside = each_some (sought_page asked) (λ p. IsInside past p) (λ p is_p. inside_of start.pages past p (spaces_of o start.pages past so.promised p.space) (at_some (sought_page asked) (λ q. q.page < start.pages q.space) p inside is_p));
+      inside = each_some (sought_page asked) (λ p. IsNotMissing past p) (λ p is_p. inside_of start.pages past p (spaces_of o start.pages past so.promised p.space) (at_some (sought_page asked) (λ q. q.page < start.pages q.space) p inside is_p));
     }
   where
     each_some : {A : Type 0} (v : Option A) (P : A → Type 0) → ((x : A) → v ≡ Some x → P x) → IfSome v P
@@ -125,7 +125,7 @@ value_at o past h p P are is = on_some o.base _ _ (λ base e at. let V : List En
 -- a fix is granted where the page is
 so_far_fix : {D : Type 0} (seen : D → DiskSeen) (o : Opening) (start : Start) (desk : State D) (log : Seen) (w : Working) (past : List Event) (pending base : List Entry) (p : PageId) (now : ℕ) (g : Granted)
     → SoFar seen o start desk log w past pending → desk.history ≡ pending ++ base → MayPrecede desk.history pending (kind.Fix p g.frame g.clock now) → home desk.history p ≡ Some g.frame → g.clock ≡ change desk.history g.frame
-    → p.page < start.pages p.space → length w.fixed < 64 → mark desk.config.first base + FIX_NEED ≤ LIMIT → (book desk.config desk.history).hand ≡ None
+    → p.page < start.pages p.space → length w.fixed < 64 → mark desk.config.first base + FIX_NEED ≤ LIMIT → (book desk.config desk.history).hands ≡ []
     → SoFar seen o start (grown desk w (kind.Fix p g.frame g.clock now)) log (with_answer w (kind.Fix p g.frame g.clock now)) (event.Entry (next_entry desk (me w) (kind.Fix p g.frame g.clock now)) ∷ past) []
 so_far_fix seen o start desk log w past pending base p now g so stands before resident clock inside few room handless =
     let k = kind.Fix p g.frame g.clock now in
@@ -177,7 +177,7 @@ so_far_load seen o start old new log w past p f h r absent next sound =
       last_log = so.last_log_fault;
       lawful = lawful_entry seen o start (placed old new h) log w now r.made old.history k so r.began tt (record {
         absent = ap (λ l. home l p) so.entries_are ∙ absent;
-        next = subst N (sym so.entries_are) (ap (λ c. next_frame (book c h) w.pass w.next) (sym so.config_is) ∙ r.taken f next);
+        next = subst N (sym so.entries_are) (ap (λ c. next_frame (book c h) w.pass w.next) (sym so.config_is) ∙ turn_of (book old.config h) w.pass w.next r.turn ∙ next);
         sound = sound;
       }) tt tt tt tt tt;
       promised = (record { inside = tt; told = tt }, tt);
@@ -206,7 +206,7 @@ does_miss seen o start old new frames was is w past p now g so moves ready miss 
     let there : OnValue o (entries (r.more ++ past)) p (λ v. IsSome v) = value_at o (r.more ++ past) had.history p (λ v. IsSome v) r.so_far.entries_are
     (on_some o.base _ _ (λ base _ some. let V : Option Content → Type 0 = λ v. IsSome v in subst V (sym (r.values (page_bytes o.config.page) base)) some) sound) in
     let S : List Entry → Type 0 = λ h. SoFar seen o start (placed old new h) is w (event.Entry x ∷ r.more ++ past) (x ∷ r.made) in
-    let H : List Entry → Type 0 = λ h. (book old.config h).hand ≡ None in
+    let H : List Entry → Type 0 = λ h. (book old.config h).hands ≡ [] in
     let B' : List Entry → Type 0 = λ h. h ≡ (x ∷ r.made) ++ old.history in
     let behind = subst S (sym loaded) (so_far_load seen o start old new is w past p g.frame had.history r miss.loaded.absent (subst B config miss.loaded.frame) there) in
     record {
@@ -215,7 +215,7 @@ does_miss seen o start old new frames was is w past p now g so moves ready miss 
       quiet = r.quiet;
       so_far = so_far_after seen o start old new is (with_answer w k) (event.Entry e ∷ event.Entry x ∷ r.more ++ past) [] (e ∷ mid.history) moves.left fixed
           (so_far_fix seen o start (placed old new mid.history) is w (event.Entry x ∷ r.more ++ past) (x ∷ r.made) old.history p now g behind (subst B' (sym loaded) (ap (λ l. x ∷ l) r.began))
-          (inr (kinds r.made, refl, r.got)) miss.hit.resident miss.hit.clock here few room (subst H (sym loaded) refl));
+          (inr (kinds r.made, refl, r.got)) miss.hit.resident miss.hit.clock here few room (subst H (sym loaded) (used_up (book old.config had.history) w.pass w.next g.frame r.turn (subst B config miss.loaded.frame))));
       answers = λ h goes. inl (g.frame, g.clock, refl);
     }
 
@@ -226,7 +226,7 @@ pub refused_behind : {D : Type 0} (seen : D → DiskSeen) (o : Opening) (start :
     → unwrap_or (disk_fault why) (disk_faults h) ≤ (seen new.disk).faults → unwrap_or (log_fault why) (log_faults h) ≤ log.faults
     → MayPrecedeRefusal h r.made c why → IsRefused o (r.more ++ past) (entries (r.more ++ past)) (own w.pass (r.more ++ past)) w.pass w.next c why → IsTrueRefusal h w.fixed c why
     → IsOfSpaces start.pages (kind.Refused c why) → IsFairRefusal false o (entries (r.more ++ past)) (made w.next (own w.pass (r.more ++ past))) c why
-    → (is_late c why ≡ true) ⊎ ((book old.config h).hand ≡ None)
+    → ((book old.config h).hands ≡ []) ⊎ (is_late c why ≡ true)
     → ((l : List Entry) → Answers l w.pass asked past (event.Entry (entry_behind old.config.first h (me w) (kind.Refused c why))))
     → Does seen o start new log (with_answer w (kind.Refused c why)) past asked
 refused_behind seen o start old new log w past p c asked why h r left came logged within last last_log precedes refused exact of fair handing answers =
@@ -247,7 +247,7 @@ refused_behind seen o start old new log w past p c asked why h r left came logge
             lawful = lawful_entry seen o start at log w past' r.made old.history k r.so_far r.began precedes tt tt tt refused tt tt;
             promised = (of, fair);
             exact = exact;
-          }) refl (falling_up w.next (w.next + 1) w.fixed (omega arith) r.so_far.falling) refl (refused_hand old.config.frames e c why (book old.config h) handing));
+          }) refl (falling_up w.next (w.next + 1) w.fixed (omega arith) r.so_far.falling) refl (refused_hand old.config.frames e c why (book old.config h) r.turn handing));
       answers = λ l goes. answers l;
     }
 
@@ -264,7 +264,7 @@ refused_at_once seen o start old new was is w past p c asked why so moves entry 
     let e : Entry = next_entry old (me w) (kind.Refused c why) in
     let there = so_far_placed seen o start old new was is w past so moves (logged_rest is e old.history new.history entry.history moves.logged) in
     refused_behind seen o start old new is w past p c asked why old.history (readied_none seen o start old new is w past p there) moves.left entry.history
-    logged within last last_log precedes refused exact of fair (inr (so.empty_handed refl)) answers
+    logged within last last_log precedes refused exact of fair (inl (so.empty_handed refl)) answers
 
 -- a refusal that tells no word and no page of a space
 pub wordless : (h : List Entry) (held : List Held) (c : Call) (why : Cause) → cause_words c why ≡ [] → cause_tag why ≡ None → is_busy why ≡ false → IsTrueRefusal h held c why
@@ -289,7 +289,7 @@ does_refused : {D : Type 0} (seen : D → DiskSeen) (o : Opening) (start : Start
     → Does seen o start new log (with_answer w (kind.Refused (call.Fix p now) why)) past (command.Fix p now)
 does_refused seen o start old new log w past p now why h r left came logged within last last_log precedes refused exact of own_is entered excused rising late =
     refused_behind seen o start old new log w past p (call.Fix p now) (command.Fix p now) why h r left came logged within last last_log precedes refused exact of
-    (record { own = own_is; filed = entered; excused = excused; rising = rising; begun = tt }) (inl late) (λ l. inr (why, refl))
+    (record { own = own_is; filed = entered; excused = excused; rising = rising; begun = tt }) (inr late) (λ l. inr (why, refl))
 
 -- and one whose refusal comes alone
 refused_alone : {D : Type 0} (seen : D → DiskSeen) (o : Opening) (start : Start) (old new : State D) (was is : Seen) (w : Working) (past : List Event) (p : PageId) (now : ℕ) (why : Cause)
@@ -319,6 +319,7 @@ does_outside seen o start old new was is w past p now pages so moves out room =
     (tt, refl) (
       places seen o start old was w past [] old.history (call.Fix p now) FIX_NEED so refl refl room,
       outside_of start.pages past p pages (spaces_of o start.pages past so.promised p.space) count out.past_end,
+      tt,
     ) (wordless old.history w.fixed (call.Fix p now) (cause.NoSuchPage pages) refl refl refl) (record { inside = tt; told = count }) refl refl (λ none. let bad : true ≡ false = none in absurd (cc)) tt
 
 pub does_full : {D : Type 0} (seen : D → DiskSeen) (o : Opening) (start : Start) (old new : State D) (was is : Seen) (w : Working) (past : List Event) (p : PageId) (now held full : ℕ)
@@ -330,7 +331,7 @@ does_full seen o start old new was is w past p now held full so moves inside cou
     let all : length w.fixed ≡ 64 = omega (arith, count, few, out.most) in
     let most : full ≡ 64 = omega (arith, out.full_is, count, all) in
     refused_alone seen o start old new was is w past p now (cause.HoldFull full) so moves out.entry tt tt (omega (arith, so.last_fault, moves.left.later)) (omega (arith, so.last_log_fault, moves.later))
-    (tt, refl) (fix_reached seen o start old was w past [] old.history p now so refl room here, is_full (own w.pass past) w.fixed so.held all ∙ ap (λ n. Some (cause.HoldFull n)) (sym most))
+    (tt, refl) (fix_reached seen o start old was w past [] old.history p now so refl room here, first_of _ _ (cause.HoldFull full) (is_full (own w.pass past) w.fixed so.held all ∙ ap (λ n. Some (cause.HoldFull n)) (sym most)))
     (wordless old.history w.fixed (call.Fix p now) (cause.HoldFull full) refl refl refl) (record { inside = here; told = tt }) refl refl (λ none. let bad : true ≡ false = none in absurd (cc)) tt
 
 pub all_fixed_here : (c d : Config) (h l : List Entry) (p : PageId) (words : List (ℕ × Word)) → d ≡ c → l ≡ h → AreAllFixed c h p words → AreAllFixed d l p words
@@ -475,7 +476,7 @@ does_unheld_read seen o start desk log w past p at len so none =
     let e : Event = event.Receipt (next_receipt desk w n) in
     let M : Option Held → Type 0 = λ newest. MatchOption newest (IsReceiptOf n e) (λ held. (bytes : List ℕ) × (clock : ℕ) × (length bytes ≡ len) × IsReceiptOf (note.Copied p at bytes clock) e) in
     let here : newest_fix (held_by past w.pass) p ≡ None = ap (λ held. newest_fix held p) so.held ∙ none in
-    does_receipt seen o start desk log w past (command.Read p at len) n so (lawful_receipt seen o start desk log w past n so refl tt (is_unheld past w.pass p here)) (record { inside = tt; told = tt }, record { own = refl; filed = refl; excused = tt; rising = tt; begun = tt })
+    does_receipt seen o start desk log w past (command.Read p at len) n so (lawful_receipt seen o start desk log w past n so refl tt (first_of _ _ cause.Unheld (is_unheld past w.pass p here))) (record { inside = tt; told = tt }, record { own = refl; filed = refl; excused = tt; rising = tt; begun = tt })
     (wordless (entries past) (held_by past w.pass) _ cause.Unheld refl refl refl) (λ h. subst M (sym here) refl)
 
 -- and of an unfix of one
@@ -486,7 +487,7 @@ does_unheld_unfix seen o start desk log w past p so none =
     let e : Event = event.Receipt (next_receipt desk w n) in
     let M : Option Held → Type 0 = λ newest. MatchOption newest (IsReceiptOf n e) (λ held. IsReceiptOf (note.Unfixed p held.frame held.number) e) in
     let here : newest_fix (held_by past w.pass) p ≡ None = ap (λ held. newest_fix held p) so.held ∙ none in
-    does_receipt seen o start desk log w past (command.Unfix p) n so (lawful_receipt seen o start desk log w past n so refl tt (is_unheld past w.pass p here)) (record { inside = tt; told = tt }, record { own = refl; filed = refl; excused = tt; rising = tt; begun = tt })
+    does_receipt seen o start desk log w past (command.Unfix p) n so (lawful_receipt seen o start desk log w past n so refl tt (first_of _ _ cause.Unheld (is_unheld past w.pass p here))) (record { inside = tt; told = tt }, record { own = refl; filed = refl; excused = tt; rising = tt; begun = tt })
     (wordless (entries past) (held_by past w.pass) _ cause.Unheld refl refl refl) (λ h. subst M (sym here) refl)
 
 pub does_unfix : {D : Type 0} (seen : D → DiskSeen) (o : Opening) (start : Start) (desk : State D) (log : Seen) (w : Working) (past : List Event) (p : PageId) (h : Held)
@@ -550,7 +551,7 @@ does_unheld_put seen o start desk log w past p at bytes so none =
     let e : Event = event.Receipt (next_receipt desk w n) in
     let M : Option Held → Type 0 = λ newest. MatchOption newest (IsReceiptOf n e) (λ held. ((from : ℕ) × (end : ℕ) × IsEntryOf (kind.Put p at bytes from end) e) ⊎ IsRefusal (call.Put p at bytes) e) in
     let here : newest_fix (held_by past w.pass) p ≡ None = ap (λ held. newest_fix held p) so.held ∙ none in
-    does_receipt seen o start desk log w past (command.Put p at bytes) n so (lawful_receipt seen o start desk log w past n so refl tt (is_unheld past w.pass p here)) (record { inside = tt; told = tt }, record { own = refl; filed = refl; excused = tt; rising = tt; begun = tt })
+    does_receipt seen o start desk log w past (command.Put p at bytes) n so (lawful_receipt seen o start desk log w past n so refl tt (first_of _ _ cause.Unheld (is_unheld past w.pass p here))) (record { inside = tt; told = tt }, record { own = refl; filed = refl; excused = tt; rising = tt; begun = tt })
     (wordless (entries past) (held_by past w.pass) _ cause.Unheld refl refl refl) (λ h. subst M (sym here) refl)
 
 -- an entry that answers a put of a page that is held
@@ -559,7 +560,7 @@ does_put_entry : {D : Type 0} (seen : D → DiskSeen) (o : Opening) (start : Sta
     → IsKindWithin start (seen new.disk).faults is.faults k → disk_faults_after k (disk_faults old.history) ≤ (seen new.disk).faults → log_faults_after k (log_faults old.history) ≤ is.faults
     → MayPrecede old.history [] k → IsLegalKind o (entries past) (own w.pass past) w.pass w.next k → IfSome (departure_in k) (λ d. IsUnfixed past d.page) → IfSome (write_in k) (λ v. IsCoveredWrite (entries past) v.page v.lsn v.upto)
     → IsCausedKind o past (entries past) (own w.pass past) w.pass w.next k → IsVictimKind o.config (entries past) w.pass w.next k → IsWithdrawalKind o.config (entries past) w.pass w.next k → IsTrueKind old.history w.fixed k
-    → IsPromised o start.pages (entries past) (own w.pass past) (event.Entry (next_entry old (me w) k)) → leaves_chunks k ≡ true → (book old.config (next_entry old (me w) k ∷ old.history)).hand ≡ None
+    → IsPromised o start.pages (entries past) (own w.pass past) (event.Entry (next_entry old (me w) k)) → leaves_chunks k ≡ true → (book old.config (next_entry old (me w) k ∷ old.history)).hands ≡ []
     → ((from : ℕ) × (end : ℕ) × (k ≡ kind.Put p at bytes from end)) ⊎ ((why : Cause) × (k ≡ kind.Refused (call.Put p at bytes) why))
     → Does seen o start new is (with_answer w k) past (command.Put p at bytes)
 does_put_entry seen o start old new was is w past p at bytes held k so moves entry answers kept newest within last last_log before legal still covered causes victim withdrawal exact promised keeps handless form =
@@ -627,7 +628,7 @@ does_spent seen o start old new was is w past p at bytes held end so newest spen
       (is_held past w.pass p held here, record { behind = omega (arith, told, spent.known.0); beyond = omega (arith, spent.beyond) }),
     ) tt tt (wordless old.history w.fixed (call.Put p at bytes) why refl refl refl)
     (record { inside = tt; told = tt }, record { own = refl; filed = refl; excused = tt; rising = tt; begun = tt }) refl
-    (refused_hand old.config.frames (next_entry old (me w) k) (call.Put p at bytes) why (book old.config old.history) (inr (so.empty_handed refl))) (inr (why, refl))
+    (refused_hand old.config.frames (next_entry old (me w) k) (call.Put p at bytes) why (book old.config old.history) (inl (so.empty_handed refl)) (inl (so.empty_handed refl))) (inr (why, refl))
 
 -- the same, where some fix is the newest
 pub does_put_held : {D : Type 0} {rows more : List Row} (seen : D → DiskSeen) (o : Opening) (start : Start) (old new : State D) (was is : Seen) (w : Working) (past : List Event) (p : PageId) (at : ℕ) (bytes : List ℕ) (found : Option Held) (done : PutDone)

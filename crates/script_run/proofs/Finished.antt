@@ -1,5 +1,5 @@
 -- A worker that is done, with the runner's writes and its closing entry, makes the trail of a run.
-use Rattle.std.proofs.Common.{◌≡◌, ℕ, Bool, true, false, cond, List, [], ◌∷◌, ◌++◌, ◌+◌, ◌<◌, ◌≤◌, ◌&&◌, ◌||◌, ◌⊎◌, Option, Some, None, IfSome, length, refl, ap, ◌∙◌, sym, subst, nat_eq, eq-eqb, filter, reverse, arith, inl, inr}
+use Rattle.std.proofs.Common.{◌≡◌, ℕ, Bool, true, false, cond, List, [], ◌∷◌, ◌++◌, ◌+◌, ◌<◌, ◌≤◌, ◌&&◌, ◌||◌, Option, Some, None, IfSome, length, refl, ap, ◌∙◌, sym, subst, nat_eq, eq-eqb, filter, reverse, arith, inl, inr}
 use Rattle.std.proofs.lemmas.Bool.Decides.{nat_tests}
 use Rattle.std.proofs.lemmas.List.{reverse-append, reverse-reverse}
 use Rattle.std.proofs.lemmas.List.Elements.{filter-append}
@@ -17,7 +17,7 @@ use Rattle.trail.specs.declared.event.Event.TheVariants as event
 use Rattle.std.specs.List.{AllByRecursion, list_all, list_any}
 use Rattle.page_ids.specs.declared.limits.TheConstants.{LIMIT}
 use Rattle.trail.specs.declared.event.Held.{Held}
-use Rattle.trail.specs.Trails.{Events, mark, entries, receipts, AreNumbered, AreWithin, caller_of, number_of, own, Opening}
+use Rattle.trail.specs.Trails.{Events, mark, entries, receipts, caller_of, number_of, own, Opening}
 use Rattle.trail.specs.Book.{book}
 use Rattle.trail.specs.Legal.{IsNumbered, IsTogether}
 use Rattle.trail.specs.Preceding.{MayPrecede}
@@ -29,7 +29,7 @@ use Rattle.trail.specs.Alone.{IsTrueEvent, IsTrueKind, closing_number, is_of_flu
 use Rattle.trail.proofs.Judging.{AreTrue, unasked, with_words, words_of}
 use Rattle.trail.specs.Laws.{IsLawful, IsSettled, AreLawful}
 use Rattle.trail.specs.Promises.{ArePromised}
-use Rattle.trail.specs.Merging.{merged, AllWithin, IsPlaced}
+use Rattle.trail.specs.Merging.{AreInOrder, IsMerged, IsPlaced}
 use Rattle.desk.specs.State.{State}
 use Rattle.desk.specs.Steps.{IsFresh}
 use Rattle.desk.specs.Logged.{IsLogged}
@@ -72,7 +72,7 @@ so_far_new {D} seen config base start desk log w pass disk fresh new same disk_l
       low_log = log_low;
       calls = calling_at_start;
       steady = let F : List Entry → Type 0 = λ h. AreSteady h in subst F (sym none) tt;
-      empty_handed = λ made. ap (λ h. (book desk.config h).hand) none;
+      empty_handed = λ made. ap (λ h. (book desk.config h).hands) none;
       held = refl;
       falling = tt;
       alone = tt;
@@ -241,31 +241,19 @@ placed sole o [] good = tt
 placed sole o (event.Entry e ∷ past) good = (good.0.legal.place, placed _ o past good.1)
 placed sole o (event.Receipt r ∷ past) good = (good.0.legal.place, placed _ o past good.1)
 
--- what merging asks and gives of one account
-pub record Merges : Type 0 where
-  pub numbered : (first : ℕ) (past : List Event) → IsPlaced first past → AreNumbered first (entries past)
-  pub within : (first : ℕ) (past : List Event) → IsPlaced first past → AreWithin (mark first (entries past)) (receipts past)
-  pub merged_is : (first : ℕ) (past : List Event) → IsPlaced first past → merged first (reverse (entries past)) (reverse (receipts past) ∷ []) ≡ reverse past
+in_order : (sole : Option ℕ) (o : Opening) (past : List Event) → AreLawful o sole past → AreInOrder past
+in_order sole o [] good = tt
+in_order sole o (e ∷ past) good = (good.0.order, in_order _ o past good.1)
 
--- the events are those of the worker and the closing entry
-merged_events : (sole : Option ℕ) (o : Opening) (past : List Event) (history : List Entry) (account : List Receipt) (events : List Event) → Merges → AreLawful o sole past → entries past ≡ reverse history → receipts past ≡ reverse account
-    → (AreNumbered o.first (reverse history) → AllWithin (mark o.first (reverse history)) (account ∷ []) → events ≡ merged o.first history (account ∷ [])) → events ≡ reverse past
-merged_events sole o past history account events law good es rs merges =
-    let is_placed = placed _ o past good in
-    let N : List Entry → Type 0 = λ h. AreNumbered o.first h in
-    let W : List Entry → List Receipt → Type 0 = λ h r. AreWithin (mark o.first h) r in
-    let WE : List Entry → Type 0 = λ h. W h (receipts past) in
-    let WR : List Receipt → Type 0 = λ r. W (reverse history) r in
-    let back : List Receipt → List (List Receipt) = λ a. a ∷ [] in
-    merges (subst N es (law.numbered o.first past is_placed)) (subst WR rs (subst WE es (law.within o.first past is_placed)), tt)
-    ∙ ap (λ h. merged o.first h (account ∷ [])) (sym (ap reverse es ∙ reverse-reverse history)) ∙ ap (λ a. merged o.first (reverse (entries past)) (back a)) (sym (ap reverse rs ∙ reverse-reverse account))
-    ∙ law.merged_is o.first past is_placed
+-- what merging gives
+abbrev pub Merges : Type 0
+Merges = (first : ℕ) (past : List Event) (es : List Entry) (rs : List Receipt) (events : List Event) → IsPlaced first past → AreInOrder past → entries past ≡ reverse es → receipts past ≡ reverse rs → IsMerged es rs events → events ≡ reverse past
 
 -- what a worker leaves, with the runner's writes and its closing entry, is a run
 pub finished : {D : Type 0} (seen : D → DiskSeen) (o : Opening) (start : Start) (desk new : State D) (was is : Seen) (w : Working) (commands : List Command) (fault : Option FaultAt) (history : List Entry) (account : List Receipt) (trail : Events)
     → FrontLeaves → w.pass ≡ 1 → Worked seen o start desk was w [] commands → (closed : IsClosed desk new fault) → IfSome fault (λ f. IsFlushedWith (seen desk.disk).faults (seen new.disk).faults was.faults is.faults f)
     → reverse history ≡ new.history → reverse account ≡ w.account → Merges → trail.first ≡ o.first
-    → (AreNumbered o.first (reverse history) → AllWithin (mark o.first (reverse history)) (account ∷ []) → trail.events ≡ merged o.first history (account ∷ []))
+    → IsMerged history account trail.events
     → (seen desk.disk).faults ≤ (seen new.disk).faults → was.faults ≤ is.faults → desk.config.first + length desk.history + 16385 ≤ LIMIT
     → IsRunOf o start.pages commands fault trail × (entries (reverse trail.events) ≡ new.history) × AreFaultsWithin start (seen new.disk).faults is.faults new.history
 finished {D} seen o start desk new was is w commands fault history account trail front pass done closed flush history_is account_is law first merges later later_log left =
@@ -322,7 +310,7 @@ finished {D} seen o start desk new was is w commands fault history account trail
     let all : entries past ≡ new.history = ap (λ h. entry ∷ h) f.entries_are ∙ sym closed.cleaned.history in
     let es : entries past ≡ reverse history = all ∙ sym history_is in
     let rs : receipts past ≡ reverse account = f.receipts_are ∙ so.receipts_are ∙ sym account_is in
-    let events : trail.events ≡ reverse past = merged_events _ o past history account trail.events law good es rs merges in
+    let events : trail.events ≡ reverse past = law o.first past history account trail.events (placed _ o past good) (in_order _ o past good) es rs merges in
     let back : reverse trail.events ≡ past = ap reverse events ∙ reverse-reverse past in
     let mine : (caller : ℕ) → Event → Bool = λ caller e. nat_eq (caller_of e) caller && is_answer e in
     let answers : (caller : ℕ) → answers_of caller trail.events ≡ reverse (filter (mine caller) past) = λ caller. ap (answers_of caller) events ∙ filter_reverse (mine caller) past in

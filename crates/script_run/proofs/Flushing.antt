@@ -1,5 +1,5 @@
 -- A clean: pages are written one after the other behind a trail in which nothing of their caller is under way. The closing flush is one.
-use Rattle.std.proofs.Common.{◌≡◌, ℕ, zero, suc, Bool, true, false, cond, List, [], ◌∷◌, ◌++◌, ◌+◌, ◌&&◌, Option, None, Some, length, drop, take, refl, ap, ◌∙◌, sym, subst, nat_eq, eq-eqb, filter, append_assoc, ◌≤◌, arith}
+use Rattle.std.proofs.Common.{◌≡◌, ℕ, zero, suc, Bool, true, false, cond, List, [], ◌∷◌, ◌++◌, ◌+◌, ◌&&◌, Option, None, Some, length, drop, take, refl, ap, ◌∙◌, sym, subst, nat_eq, filter, append_assoc, ◌≤◌, arith}
 use Rattle.page_ids.specs.declared.ids.PageId.{PageId}
 use Rattle.trail.specs.declared.event.Dirty.{Dirty}
 use Rattle.trail.specs.declared.event.Entry.{Entry}

@@ -180,6 +180,7 @@ fewer_mid (y ∷ xs) x ys = omega (arith, fewer_mid xs x ys)
 pub ready_given : {D : Type 0} (seen : D → DiskSeen) (desk : State D) (frames : Plain) (xs : List Held) (x : Held) (ys : List Held) → IsReady seen desk frames (xs ++ x ∷ ys) → IsReady seen desk (given_at frames x.frame) (xs ++ ys)
 ready_given seen desk frames xs x ys ready = record {
   tied = tied_given seen desk frames x.frame ready.tied;
+  hands = ready.hands;
   homes = ready.homes;
   apart = ready.apart;
   housed = housed_mid desk.history xs x ys ready.housed;

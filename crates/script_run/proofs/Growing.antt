@@ -1,5 +1,5 @@
 -- How the trail so far grows by an event.
-use Rattle.std.proofs.Common.{◌≡◌, ◌<◌, ℕ, Bool, List, [], ◌∷◌, ◌++◌, ◌+◌, ◌≤◌, Option, Some, None, true, false, refl, ap, ◌∙◌, sym, subst, eq-eqb, nat_eq, IfSome, length, arith, inr}
+use Rattle.std.proofs.Common.{◌≡◌, ◌<◌, ℕ, List, [], ◌∷◌, ◌++◌, ◌+◌, ◌≤◌, Option, Some, None, true, false, refl, ap, ◌∙◌, sym, subst, IfSome, length, arith, inr}
 use Rattle.std.specs.Prelude.{unwrap_or}
 use Rattle.page_ids.specs.declared.config.Config.{Config}
 use Rattle.page_disk.specs.Disks.{DiskSeen}
@@ -144,7 +144,7 @@ held_more w e past is number held = ap open_fixes (own_more w.pass (event.Entry 
 -- an entry that is the answer of the worker's call
 pub so_far_answer : {D : Type 0} (seen : D → DiskSeen) (o : Opening) (start : Start) (desk : State D) (log : Seen) (w : Working) (past : List Event) (pending : List Entry) (k : Kind)
     → SoFar seen o start desk log w past pending → Adds seen o start desk log w past k → kind_answers k ≡ true → AreFalling (w.next + 1) (held_after_kind w.next k w.fixed)
-    → leaves_chunks k ≡ true → (book desk.config (next_entry desk (me w) k ∷ desk.history)).hand ≡ None
+    → leaves_chunks k ≡ true → (book desk.config (next_entry desk (me w) k ∷ desk.history)).hands ≡ []
     → SoFar seen o start (grown desk w k) log (with_answer w k) (event.Entry (next_entry desk (me w) k) ∷ past) []
 so_far_answer seen o start desk log w past pending k so adds answers falls keeps handless =
     let e : Entry = next_entry desk (me w) k in

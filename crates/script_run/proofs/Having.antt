@@ -13,15 +13,14 @@ use Rattle.trail.specs.declared.event.Entry.{Entry}
 use Rattle.trail.specs.declared.event.Held.{Held}
 use Rattle.trail.specs.declared.event.Event.{Event}
 use Rattle.trail.specs.declared.event.Event.TheVariants as event
-use Rattle.trail.specs.declared.event.Kind.{Kind}
 use Rattle.trail.specs.declared.event.Kind.TheVariants as kind
 use Rattle.trail.specs.Trails.{callers, entries, own, Opening}
 use Rattle.trail.specs.History.{home, change, value, disk_faults}
 use Rattle.trail.specs.Dirt.{cleaned, dirty, dirt_of, is_dirty}
 use Rattle.trail.specs.Calls.{calls_of, is_answer, held_by, newest_fix, open_fixes}
 use Rattle.trail.specs.Preceding.{GotFrame, kinds}
-use Rattle.trail.specs.Book.{book, frame_in_turn, next_frame}
-use Rattle.trail.proofs.Judging.{of_all, turn_of_all, turn_of_own}
+use Rattle.trail.specs.Book.{book}
+use Rattle.trail.proofs.Judging.{HasTurn, of_all}
 use Rattle.trail.specs.Still.{IsUnfixed}
 use Rattle.trail.specs.Victim.{IsSought, before_write}
 use Rattle.frame_words.specs.Plain.{Plain}
@@ -47,8 +46,8 @@ pub record Readied {D : Type 0} (seen : D → DiskSeen) (o : Opening) (start : S
   pub so_far : SoFar seen o start (placed old new h) log w (more ++ past) made
   pub began : h ≡ made ++ old.history
   pub got : GotFrame p (kinds made)
-  -- the frame in turn is for this call
-  pub taken : (f : ℕ) → frame_in_turn (book old.config h) ≡ Some f → next_frame (book old.config h) w.pass w.next ≡ Some f
+  -- no frame is in another call's hand
+  pub turn : HasTurn (book old.config h) w.pass w.next
   pub faults : disk_faults h ≡ disk_faults old.history
   pub values : (size : ℕ) (base : PageId → Option Content) → value size base h p ≡ value size base old.history p
 
@@ -62,7 +61,7 @@ readied_none seen o start old new log w past p so = record {
   so_far = so;
   began = refl;
   got = tt;
-  taken = λ f here. turn_of_all (book old.config old.history) w.pass w.next (so.empty_handed refl) ∙ here;
+  turn = inl (so.empty_handed refl);
   faults = refl;
   values = λ size base. refl;
 }
@@ -115,6 +114,7 @@ record Swept {D : Type 0} (seen : D → DiskSeen) (o : Opening) (start : Start) 
   form : (kinds made ≡ []) ⊎ ((lsn : ℕ) × (upto : ℕ) × (kinds made ≡ kind.Write q lsn upto ∷ []))
   clean : is_dirty mid q ≡ false
   before : before_write w.pass w.next q mid ≡ old.history
+  hands : (book old.config mid).hands ≡ []
   homes : (p : PageId) → home mid p ≡ home old.history p
   changes : (f : ℕ) → change mid f ≡ change old.history f
   faults : disk_faults mid ≡ disk_faults old.history
@@ -133,6 +133,7 @@ swept_clean seen o start old new log w past q so clean =
       form = inl refl;
       clean = clean;
       before = subst B so.entries_are (no_write_before past w.pass w.next q so.alone (let count = next_by (own w.pass past) w.next so.calls in omega (arith, count)));
+      hands = so.empty_handed refl;
       homes = λ p. refl;
       changes = λ f. refl;
       faults = refl;
@@ -166,6 +167,7 @@ swept_written seen o start old new log w past q mid so logged back =
       form = inr (back.dirt.newest, back.upto, refl);
       clean = ap is_some (clean_again q (dirty old.history));
       before = own_write (nat_eq w.pass w.pass) (nat_eq w.next w.next) (same_page q q) old.history (x ∷ old.history) (eq-eqb w.pass w.pass refl) (eq-eqb w.next w.next refl) (same_self q);
+      hands = so.empty_handed refl;
       homes = λ p. refl;
       changes = λ f. refl;
       faults = refl;
@@ -209,9 +211,6 @@ sought_here c d caller number p passed h mid there sought config at before =
     subst (λ config. S config (before_write caller number p there)) (sym config)
     (subst (λ l. S c (before_write caller number p l)) (sym at) (subst (λ l. S c l) (sym before) sought))
 
-in_hand : (b : Rattle.trail.specs.Book.Book) (f c n : ℕ) → b.hand ≡ Some (record { frame = f; caller = c; number = n }) → Some f ≡ frame_in_turn b
-in_hand b f c n is = ap (λ (o : Option Rattle.trail.specs.Book.Hand). Rattle.std.specs.Option.option_map_or (λ (x : Rattle.trail.specs.Book.Hand). Some x.frame) o (Rattle.trail.specs.Book.front b.free)) (sym is)
-
 -- a page left its frame
 readied_evicted : {D : Type 0} {cleared : List Row} (seen : D → DiskSeen) (o : Opening) (start : Start) (old new had : State D) (frames : Plain) (log : Seen) (w : Working) (past : List Event) (p : PageId) (f : ℕ)
     → SoFar seen o start (placed old new old.history) log w past [] → IsReady seen old frames w.fixed → IsLogged log had.history → home old.history p ≡ None
@@ -233,7 +232,7 @@ readied_evicted seen o start old new had frames log w past p f so ready logged a
       clean = subst C (sym s.so_far.entries_are) s.clean;
       housed = subst H (sym s.so_far.entries_are) (s.homes q ∙ evicted.housed);
     }) tt in
-    let handed : (book old.config (x ∷ mid)).hand ≡ Some (record { frame = f; caller = w.pass; number = w.next }) = evict_hand old.config.frames x q f evicted.passed (book old.config mid) (none_withdrawn old.config mid s.so_far.steady) in
+    let closed = none_withdrawn old.config mid s.so_far.steady in
     let there : Readied seen o start old new log w past p (x ∷ mid) = record {
       made = x ∷ s.made;
       more = event.Entry x ∷ s.more;
@@ -249,7 +248,7 @@ readied_evicted seen o start old new had frames log w past p f so ready logged a
       }) refl refl refl;
       began = ap (λ l. x ∷ l) s.began;
       got = (other_page old.history q p f evicted.housed absent, s.form);
-      taken = λ g here. turn_of_own (book old.config (x ∷ mid)) w.pass w.next f handed ∙ in_hand (book old.config (x ∷ mid)) f w.pass w.next handed ∙ here;
+      turn = inr (f, evict_hand old.config.frames x q f evicted.passed (book old.config mid) closed s.hands);
       faults = s.faults;
       values = λ size base. s.values size base p;
     } in

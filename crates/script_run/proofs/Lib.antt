@@ -14,6 +14,7 @@ pub mod Fixing
 pub mod Making
 pub mod Created
 pub mod Progress
+pub mod Scanning
 pub mod Flushing
 pub mod Closing
 pub mod Cleaning

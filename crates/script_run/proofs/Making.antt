@@ -25,7 +25,7 @@ use Rattle.trail.specs.Causes.{due, resident_cause, IsReached, IsRefused}
 use Rattle.trail.specs.Alone.{IsTrueRefusal}
 use Rattle.trail.specs.Book.{book, frame_in_turn, is_late, next_frame}
 use Rattle.trail.specs.Promises.{IsOfSpaces, TellsRising, is_own, is_noted}
-use Rattle.trail.proofs.Judging.{outside_of, spaces_of}
+use Rattle.trail.proofs.Judging.{first_of, outside_of, spaces_of, turn_of, used_up}
 use Rattle.page_ids.specs.declared.limits.TheConstants.{CREATE_NEED, LIMIT}
 use Rattle.frame_words.specs.Plain.{Plain}
 use Rattle.frame_words.specs.Rows.{Row}
@@ -124,7 +124,7 @@ does_made seen o start old new frames was is w past p now g so moves ready by in
             last_log = r.so_far.last_log_fault;
             lawful = lawful_entry seen o start at is w past' r.made old.history k r.so_far r.began r.got (record {
               absent = ap (λ l. home l p) r.so_far.entries_are ∙ by.made.absent;
-              next = subst N (sym r.so_far.entries_are) (ap (λ c. next_frame (book c had.history) w.pass w.next) (sym r.so_far.config_is) ∙ r.taken g.frame (subst B config by.made.frame));
+              next = subst N (sym r.so_far.entries_are) (ap (λ c. next_frame (book c had.history) w.pass w.next) (sym r.so_far.config_is) ∙ turn_of (book old.config had.history) w.pass w.next r.turn ∙ subst B config by.made.frame);
               behind = subst L (sym r.so_far.entries_are) (omega (arith, had_end old had (me w) g.frame by.frame_is, known, by.known.0));
               record_is = refl;
             }) tt tt (record {
@@ -133,7 +133,7 @@ does_made seen o start old new frames was is w past p now g so moves ready by in
             }) tt tt;
             promised = (record { inside = here; told = tt }, tt);
             exact = tt;
-          }) refl (omega arith, r.so_far.falling) refl refl);
+          }) refl (omega arith, r.so_far.falling) refl (used_up (book old.config had.history) w.pass w.next g.frame r.turn (subst B config by.made.frame)));
       answers = λ h goes. inl (g.frame, by.start, by.start + 21, refl);
     }
 
@@ -147,7 +147,7 @@ unmade_behind : {D : Type 0} (seen : D → DiskSeen) (o : Opening) (start : Star
     → Does seen o start new log (with_answer w (kind.Refused (call.Create p now) why)) past (command.Create p now)
 unmade_behind seen o start old new log w past p now why h r left came logged within last last_log precedes refused exact of own_is entered rising late =
     refused_behind seen o start old new log w past p (call.Create p now) (command.Create p now) why h r left came logged within last last_log precedes refused exact of
-    (record { own = own_is; filed = entered; excused = tt; rising = rising; begun = tt }) (inl late) (λ l. inr (why, refl))
+    (record { own = own_is; filed = entered; excused = tt; rising = rising; begun = tt }) (inr late) (λ l. inr (why, refl))
 
 -- and one whose refusal comes alone
 unmade_alone : {D : Type 0} (seen : D → DiskSeen) (o : Opening) (start : Start) (old new : State D) (was is : Seen) (w : Working) (past : List Event) (p : PageId) (now : ℕ) (why : Cause)
@@ -171,6 +171,7 @@ create_outside seen o start old new was is w past p now pages so moves out room 
     (tt, refl) (
       places seen o start old was w past [] old.history (call.Create p now) CREATE_NEED so refl refl room,
       outside_of start.pages past p pages (spaces_of o start.pages past so.promised p.space) count out.past_end,
+      tt,
     ) (wordless old.history w.fixed (call.Create p now) why refl refl refl) (record { inside = tt; told = count }) refl refl tt
 
 pub create_full : {D : Type 0} (seen : D → DiskSeen) (o : Opening) (start : Start) (old new : State D) (was is : Seen) (w : Working) (past : List Event) (p : PageId) (now held full : ℕ)
@@ -185,7 +186,7 @@ create_full seen o start old new was is w past p now held full so moves inside c
     unmade_alone seen o start old new was is w past p now why so moves out.entry tt tt (omega (arith, so.last_fault, moves.left.later)) (omega (arith, so.last_log_fault, moves.later))
     (tt, refl) (
       create_reached seen o start old was w past [] old.history p now so refl room here,
-      ap (λ x. option_or x (resident_cause (entries past) p)) (is_full (own w.pass past) w.fixed so.held all) ∙ ap (λ n. Some (cause.HoldFull n)) (sym most),
+      first_of _ _ why (ap (λ x. option_or x (resident_cause (entries past) p)) (is_full (own w.pass past) w.fixed so.held all) ∙ ap (λ n. Some (cause.HoldFull n)) (sym most)),
     ) (wordless old.history w.fixed (call.Create p now) why refl refl refl) (record { inside = here; told = tt }) refl refl tt
 
 pub create_resident : {D : Type 0} (seen : D → DiskSeen) (o : Opening) (start : Start) (old new : State D) (was is : Seen) (w : Working) (past : List Event) (p : PageId) (now f : ℕ)
@@ -197,7 +198,7 @@ create_resident seen o start old new was is w past p now f so moves inside few o
     unmade_alone seen o start old new was is w past p now why so moves out.entry tt tt (omega (arith, so.last_fault, moves.left.later)) (omega (arith, so.last_log_fault, moves.later))
     (tt, refl) (
       create_reached seen o start old was w past [] old.history p now so refl room here,
-      ap (λ x. option_or x (resident_cause (entries past) p)) (not_full (own w.pass past) w.fixed so.held few) ∙ ap (option_map (λ f. cause.Resident f)) (ap (λ h. home h p) so.entries_are ∙ out.resident),
+      first_of _ _ why (ap (λ x. option_or x (resident_cause (entries past) p)) (not_full (own w.pass past) w.fixed so.held few) ∙ ap (option_map (λ f. cause.Resident f)) (ap (λ h. home h p) so.entries_are ∙ out.resident)),
     ) (wordless old.history w.fixed (call.Create p now) why refl refl refl) (record { inside = here; told = tt }) refl refl tt
 
 pub create_unseated : {D : Type 0} (seen : D → DiskSeen) (o : Opening) (start : Start) (old new : State D) (frames : Plain) (was is : Seen) (w : Working) (past : List Event) (p : PageId) (now : ℕ) (words : List (ℕ × Word))

@@ -1,6 +1,7 @@
 -- Commands are done one after the other, and then what is held is given back.
 use Rattle.std.proofs.Common.{◌≡◌, ℕ, Bool, true, false, cond, List, [], ◌∷◌, ◌++◌, ◌⊎◌, inl, inr, Option, Some, None, MatchOption, length, refl, ap, ◌∙◌, sym, subst, nat_eq, filter, reverse, append_assoc, eq-eqb}
-use Rattle.std.proofs.lemmas.List.{reverse-append}
+use Rattle.std.proofs.lemmas.List.{reverse-append, reverse-reverse}
+use Rattle.std.proofs.lemmas.List.Elements.{filter-append}
 use Rattle.page_ids.specs.declared.ids.PageId.{PageId}
 use Rattle.page_disk.specs.Disks.{DiskSeen}
 use Rattle.trail.specs.declared.event.Call.{Call}
@@ -19,10 +20,11 @@ use Rattle.trail.specs.Kinds.{kind_answers}
 use Rattle.desk.specs.State.{State}
 use Rattle.script_text.specs.declared.script.Command.{Command}
 use Rattle.script_text.specs.declared.script.Command.TheVariants as command
-use Rattle.script_run.specs.Todo.{Answers, GoesOn, Todo, GivesBack, IsReceiptOf, IsEntryOf, IsRefusal}
+use Rattle.script_run.specs.Todo.{is_one_call, Answers, Makes, GoesOn, Todo, GivesBack, IsReceiptOf, IsEntryOf, IsRefusal}
 use Rattle.redo_mark.specs.Logs.{Seen}
 use Rattle.script_run.specs.Openings.{Start}
 use Rattle.script_run.specs.Work.{Working, SoFar, Does, Progress, Ending, Worked, with_note}
+use Rattle.script_run.specs.Several.{Done}
 use Rattle.script_run.proofs.Fixes.{same_self}
 use Rattle.script_run.proofs.Doing.{does_unfix}
 
@@ -43,6 +45,29 @@ answers_along h k (command.Unfix p) past earlier e same a =
     subst M same a
 answers_along h k (command.Clean bound) past earlier e same a = a
 answers_along h k command.Checkpoint past earlier e same a = a
+answers_along h k (command.Scan from last now) past earlier e same a = a
+
+-- and so its answers
+makes_along : (h : List Entry) (k : ℕ) (c : Command) (past earlier mine : List Event) → held_by past k ≡ held_by earlier k → Makes h k c past mine → Makes h k c earlier mine
+makes_along h k (command.Scan from last now) past earlier mine same scans = scans
+makes_along h k (command.Fix p now) past earlier mine same (e, one, a) = (e, one, answers_along h k (command.Fix p now) past earlier e same a)
+makes_along h k (command.Create p now) past earlier mine same (e, one, a) = (e, one, answers_along h k (command.Create p now) past earlier e same a)
+makes_along h k (command.Read p at len) past earlier mine same (e, one, a) = (e, one, answers_along h k (command.Read p at len) past earlier e same a)
+makes_along h k (command.Put p at bytes) past earlier mine same (e, one, a) = (e, one, answers_along h k (command.Put p at bytes) past earlier e same a)
+makes_along h k (command.Unfix p) past earlier mine same (e, one, a) = (e, one, answers_along h k (command.Unfix p) past earlier e same a)
+makes_along h k (command.Clean bound) past earlier mine same (e, one, a) = (e, one, answers_along h k (command.Clean bound) past earlier e same a)
+makes_along h k command.Checkpoint past earlier mine same (e, one, a) = (e, one, answers_along h k command.Checkpoint past earlier e same a)
+
+-- one call has one answer
+makes_one : (h : List Entry) (k : ℕ) (c : Command) (past : List Event) (e : Event) → is_one_call c ≡ true → Answers h k c past e → Makes h k c past (e ∷ [])
+makes_one h k (command.Scan from last now) past e one a = absurd a
+makes_one h k (command.Fix p now) past e one a = (e, refl, a)
+makes_one h k (command.Create p now) past e one a = (e, refl, a)
+makes_one h k (command.Read p at len) past e one a = (e, refl, a)
+makes_one h k (command.Put p at bytes) past e one a = (e, refl, a)
+makes_one h k (command.Unfix p) past e one a = (e, refl, a)
+makes_one h k (command.Clean bound) past e one a = (e, refl, a)
+makes_one h k command.Checkpoint past e one a = (e, refl, a)
 
 -- a history that goes on from some events goes on from those before them
 goes_back : (e : Event) (past : List Event) (h : List Entry) → GoesOn (e ∷ past) h → GoesOn past h
@@ -88,19 +113,19 @@ held_more true e mine same = same
 held_more false e mine same = refl
 
 -- events that are no answers hold nothing
-held_quiet : (before past : List Event) (k : ℕ) → filter is_answer before ≡ [] → held_by (before ++ past) k ≡ held_by past k
+pub held_quiet : (before past : List Event) (k : ℕ) → filter is_answer before ≡ [] → held_by (before ++ past) k ≡ held_by past k
 held_quiet [] past k quiet = refl
 held_quiet (event.Entry e ∷ before) past k quiet =
     let none = no_answer (kind_answers e.kind) (event.Entry e) (filter is_answer before) quiet in
     held_more (nat_eq e.caller k) (event.Entry e) (own k (before ++ past)) (quiet_kind e.number e.kind (held_by (before ++ past) k) none.0) ∙ held_quiet before past k none.1
 held_quiet (event.Receipt r ∷ before) past k quiet = absurd (cc)
 
-held_pick : (b : Bool) (e : Event) (mine : List Event) → open_fixes (cond b (e ∷ mine) mine) ≡ cond b (held_after e (open_fixes mine)) (open_fixes mine)
+pub held_pick : (b : Bool) (e : Event) (mine : List Event) → open_fixes (cond b (e ∷ mine) mine) ≡ cond b (held_after e (open_fixes mine)) (open_fixes mine)
 held_pick true e mine = refl
 held_pick false e mine = refl
 
 -- an answer does the same to the fixes, whatever stood between
-held_along : (e : Event) (past earlier : List Event) (k : ℕ) → held_by past k ≡ held_by earlier k → held_by (e ∷ past) k ≡ held_by (e ∷ earlier) k
+pub held_along : (e : Event) (past earlier : List Event) (k : ℕ) → held_by past k ≡ held_by earlier k → held_by (e ∷ past) k ≡ held_by (e ∷ earlier) k
 held_along e past earlier k same =
     held_pick (nat_eq (caller_of e) k) e (own k past) ∙ ap (λ held. cond (nat_eq (caller_of e) k) (held_after e held) held) same ∙ sym (held_pick (nat_eq (caller_of e) k) e (own k earlier))
 
@@ -119,7 +144,7 @@ put_answers (Some held) e p at bytes (inl done) = ap kind_answers done.2
 put_answers (Some held) e p at bytes (inr refused) = refusal_answers e (call.Put p at bytes) refused
 
 -- an answer of a command answers
-answers_answer : (h : List Entry) (k : ℕ) (c : Command) (past : List Event) (e : Event) → Answers h k c past e → is_answer e ≡ true
+pub answers_answer : (h : List Entry) (k : ℕ) (c : Command) (past : List Event) (e : Event) → Answers h k c past e → is_answer e ≡ true
 answers_answer h k c past (event.Receipt r) a = refl
 answers_answer h k (command.Fix p now) past (event.Entry e) (inl granted) = ap kind_answers granted.2
 answers_answer h k (command.Fix p now) past (event.Entry e) (inr refused) = refusal_answers e (call.Fix p now) refused
@@ -131,6 +156,7 @@ answers_answer h k (command.Unfix p) past (event.Entry e) a = no_receipt (newest
 answers_answer h k (command.Clean bound) past (event.Entry e) (inl cleaned) = ap kind_answers cleaned.1
 answers_answer h k (command.Clean bound) past (event.Entry e) (inr refused) = refusal_answers e (call.Clean bound) refused
 answers_answer h k command.Checkpoint past (event.Entry e) (lsn, is) = ap kind_answers is
+answers_answer h k (command.Scan from last now) past (event.Entry e) a = absurd a
 
 quiet_test : (b : Bool) (e : Event) (es xs : List Event) → b ≡ false → xs ≡ es → cond b (e ∷ xs) xs ≡ es
 quiet_test true e es xs bad same = absurd (cc)
@@ -143,7 +169,7 @@ filter_quiet (e ∷ before) more quiet =
     quiet_test (is_answer e) e (filter is_answer more) (filter is_answer (before ++ more)) none.0 (filter_quiet before more none.1)
 
 -- the answers, with one more
-filter_answer : (e : Event) (before more done : List Event) → is_answer e ≡ true → filter is_answer before ≡ [] → filter is_answer more ≡ done → filter is_answer (e ∷ before ++ more) ≡ e ∷ done
+pub filter_answer : (e : Event) (before more done : List Event) → is_answer e ≡ true → filter is_answer before ≡ [] → filter is_answer more ≡ done → filter is_answer (e ∷ before ++ more) ≡ e ∷ done
 filter_answer e before more done answers quiet are =
     ap (λ (b : Bool). cond b (e ∷ filter is_answer (before ++ more)) (filter is_answer (before ++ more))) answers ∙ ap (λ xs. e ∷ xs) (filter_quiet before more quiet ∙ are)
 
@@ -154,29 +180,60 @@ pub append_nil : {A : Type 0} → (xs : List A) → xs ++ [] ≡ xs
 append_nil [] = refl
 append_nil (x ∷ xs) = ap (λ t. x ∷ t) (append_nil xs)
 
+-- events do to the fixes what their answers do
+held_answers : (more past earlier : List Event) (k : ℕ) → held_by past k ≡ held_by earlier k → held_by (more ++ past) k ≡ held_by (filter is_answer more ++ earlier) k
+held_answers [] past earlier k same = same
+held_answers (e ∷ more) past earlier k same = cases (is_answer e) refl (held_answers more past earlier k same)
+  where
+    cases : (b : Bool) → is_answer e ≡ b → held_by (more ++ past) k ≡ held_by (filter is_answer more ++ earlier) k
+        → held_by (e ∷ more ++ past) k ≡ held_by (cond b (e ∷ filter is_answer more) (filter is_answer more) ++ earlier) k
+    cases true t next = held_along e (more ++ past) (filter is_answer more ++ earlier) k next
+    cases false t next = held_quiet (e ∷ []) (more ++ past) k (ap (λ (b : Bool). cond b (e ∷ []) []) t) ∙ next
+
+-- a command that is one call was done
+pub done_one : {D : Type 0} (seen : D → DiskSeen) (o : Opening) (start : Start) (desk : State D) (log : Seen) (w : Working) (past : List Event) (c : Command) → is_one_call c ≡ true
+    → Does seen o start desk log w past c → Done seen o start desk log w past c
+done_one seen o start desk log w past c one does =
+    let now : List Event = does.answer ∷ does.before ++ past in
+    let answers : is_answer does.answer ≡ true = answers_answer (entries now) w.pass c past does.answer (does.answers (entries now) (goes_here now)) in
+    let lone : filter is_answer (does.answer ∷ does.before) ≡ does.answer ∷ [] =
+    ap (λ (b : Bool). cond b (does.answer ∷ filter is_answer does.before) (filter is_answer does.before)) answers ∙ ap (λ xs. does.answer ∷ xs) does.quiet in
+    record {
+      more = does.answer ∷ does.before;
+      so_far = does.so_far;
+      makes = λ h goes.
+          let M : List Event → Type 0 = λ mine. Makes h w.pass c past mine in
+          subst M (sym (ap reverse lone)) (makes_one h w.pass c past does.answer one (does.answers h goes));
+    }
+
 pub progress_more : {D : Type 0} (seen : D → DiskSeen) (o : Opening) (start : Start) (desk new : State D) (was is : Seen) (w v : Working) (past : List Event) (commands : List Command) (c : Command) (rest : List Command)
-    → v.pass ≡ w.pass → (so : Progress seen o start desk was w past commands (c ∷ rest)) → Does seen o start new is v (so.more ++ past) c → Progress seen o start new is v past commands rest
+    → v.pass ≡ w.pass → (so : Progress seen o start desk was w past commands (c ∷ rest)) → Done seen o start new is v (so.more ++ past) c → Progress seen o start new is v past commands rest
 progress_more seen o start desk new was is w v past commands c rest pass so does =
     let H : ℕ → Type 0 = λ k. held_by (so.more ++ past) k ≡ held_by (so.done ++ past) k in
     let held : held_by (so.more ++ past) v.pass ≡ held_by (so.done ++ past) v.pass = subst H (sym pass) so.held in
     let L : ℕ → Type 0 = λ k. (h : List Entry) (tail : List Event) → GoesOn (so.more ++ past) h → Todo h k (c ∷ rest) (so.done ++ past) tail → Todo h k commands past (reverse so.done ++ tail) in
     let left = subst L (sym pass) so.left in
-    let now : List Event = does.answer ∷ (does.before ++ (so.more ++ past)) in
-    let all : does.answer ∷ (does.before ++ (so.more ++ past)) ≡ does.answer ∷ ((does.before ++ so.more) ++ past) = ap (λ t. does.answer ∷ t) (sym (append_assoc does.before so.more past)) in
+    let did : List Event = filter is_answer does.more in
+    let all : does.more ++ (so.more ++ past) ≡ (does.more ++ so.more) ++ past = sym (append_assoc does.more so.more past) in
+    let done : did ++ (so.done ++ past) ≡ (did ++ so.done) ++ past = sym (append_assoc did so.done past) in
     let S : List Event → Type 0 = λ p. SoFar seen o start new is v p [] in
     record {
-      more = does.answer ∷ does.before ++ so.more;
-      done = does.answer ∷ so.done;
+      more = does.more ++ so.more;
+      done = did ++ so.done;
       so_far = subst S all does.so_far;
-      done_are = filter_answer does.answer does.before so.more so.done (answers_answer (entries now) v.pass c (so.more ++ past) does.answer (does.answers (entries now) (goes_here now))) does.quiet so.done_are;
-      held = ap (λ p. held_by p v.pass) (sym all) ∙ held_along does.answer (does.before ++ (so.more ++ past)) (so.done ++ past) v.pass (held_quiet does.before (so.more ++ past) v.pass does.quiet ∙ held);
+      done_are = filter-append is_answer does.more so.more ∙ ap (λ xs. did ++ xs) so.done_are;
+      held = ap (λ p. held_by p v.pass) (sym all) ∙ held_answers does.more (so.more ++ past) (so.done ++ past) v.pass held ∙ ap (λ p. held_by p v.pass) done;
       left = λ h tail goes t.
           let G : List Event → Type 0 = λ l. GoesOn l h in
-          let here : GoesOn now h = subst G (sym all) goes in
+          let here : GoesOn (does.more ++ (so.more ++ past)) h = subst G (sym all) goes in
+          let mine : List Event = reverse did in
+          let E : List Event → Type 0 = λ earlier. Todo h v.pass rest earlier tail in
+          let others : Todo h v.pass rest (reverse mine ++ (so.done ++ past)) tail = subst E (sym (ap (λ xs. xs ++ (so.done ++ past)) (reverse-reverse did) ∙ done)) t in
+          let one : Todo h v.pass (c ∷ rest) (so.done ++ past) (mine ++ tail) =
+          (mine, tail, refl, makes_along h v.pass c (so.more ++ past) (so.done ++ past) mine held (does.makes h here), others) in
           let T : List Event → Type 0 = λ l. Todo h v.pass commands past l in
-          let one : Todo h v.pass (c ∷ rest) (so.done ++ past) (does.answer ∷ tail) =
-          (does.answer ∷ [], tail, refl, (does.answer, refl, answers_along h v.pass c (so.more ++ past) (so.done ++ past) does.answer held (does.answers h here)), t) in
-          subst T (sym (around does.answer so.done tail)) (left h (does.answer ∷ tail) (goes_back_all (does.answer ∷ does.before) (so.more ++ past) h here) one);
+          subst T (sym (ap (λ xs. xs ++ tail) (reverse-append did so.done) ∙ append_assoc (reverse so.done) mine tail))
+          (left h (mine ++ tail) (goes_back_all does.more (so.more ++ past) h here) one);
     }
 
 pub ending_start : {D : Type 0} (seen : D → DiskSeen) (o : Opening) (start : Start) (desk : State D) (log : Seen) (w : Working) (past : List Event) (commands : List Command) → Progress seen o start desk log w past commands [] → Ending seen o start desk log w past commands

@@ -10,8 +10,6 @@ use Rattle.page_disk.specs.declared.shelf.FaultAt.{FaultAt}
 use Rattle.redo_mark.specs.Device.{Told, IsOpening}
 use Rattle.redo_mark.specs.Logs.{Seen, Holds, IsKept, IsAllKept, IsKeptAt}
 use Rattle.redo_mark.specs.Records.{head_of, record_of}
-use Rattle.trail.specs.declared.event.Cause.{Cause}
-use Rattle.trail.specs.declared.event.Cause.TheVariants as cause
 use Rattle.trail.specs.declared.event.Entry.{Entry}
 use Rattle.trail.specs.declared.event.Event.{Event}
 use Rattle.trail.specs.declared.event.Event.TheVariants as event

@@ -1,5 +1,5 @@
 -- What a command that uses no device answers, by its status.
-use Rattle.std.specs.Prelude.{ℕ, List, [], ◌∷◌, ◌++◌, ◌≡◌, ◌≢◌, ◌⊎◌, Option, Some, take, codes}
+use Rattle.std.specs.Prelude.{ℕ, List, [], ◌++◌, ◌≡◌, ◌≢◌, ◌⊎◌, Option, Some, take}
 use Rattle.page_ids.specs.Faults.{Rose}
 use Rattle.script_text.specs.CommandLine.{IsCalled}
 use Rattle.script_text.specs.Plan.{Plan}
@@ -37,11 +37,11 @@ pub record IsChecked (old new : Streams) (end : Plain) : Type 0 where
   pub bad_only : (bytes : List ℕ) (n : ℕ) → old.left ≡ Some bytes → IsBad bytes n → IsNoScript end.status end.line n
   pub read_fault : end.status ≡ 4 → Rose old.reads_failed new.reads_failed
   pub write_fault : end.status ≡ 5 → Rose old.writes_failed new.writes_failed
-  pub taken : IsTakenWithin 0 1048577 old.left new.left
 
--- The words call for nothing, or for `check`, which then ended so; or there was no memory to read them.
+-- The words call for nothing, or for `check`, which then ended so; or there was no memory to read them. Of the input a beginning was taken.
 pub record IsPlainEnd (words : List (List ℕ)) (old new : Streams) (end : Plain) : Type 0 where
   pub usage : end.status ≡ 2 → (p : Program) → IsCalled words p → ⊥
   pub usage_only : ((p : Program) → IsCalled words p → ⊥) → (end.status ≡ 2) ⊎ (end.status ≡ 7)
   pub line : end.status ≢ 3 → end.line ≡ 0
   pub checked : (end.status ≡ 2) ⊎ (end.status ≡ 7) ⊎ IsChecked old new end
+  pub taken : IsTakenWithin 0 1048577 old.left new.left

@@ -6,6 +6,7 @@ use Rattle.page_ids.specs.Faults.{Rose}
 use Rattle.page_ids.specs.Layout.{IsPage}
 use Rattle.page_ids.specs.Size.{page_bytes}
 use Rattle.page_ids.specs.declared.ids.PageId.{PageId}
+use Rattle.page_ids.specs.declared.limits.TheConstants.{LAST_LSN}
 use Rattle.page_disk.specs.Disks.{DiskSeen, pages_in}
 use Rattle.page_disk.specs.Shelves.{Asked, OfferedDisk, OfferedLog}
 use Rattle.page_disk.specs.declared.shelf.FaultAt.{FaultAt}
@@ -206,7 +207,7 @@ pub record IsLongLog {R : Type 0} (left : Option (List ℕ)) (was : Option Told)
   pub log_is : log ≡ Some end
   pub whole : line ≡ 0
   pub opened : IsLogAsOpened was log_seen end
-  pub beyond : 2 ^ 63 < plan.config.lsn + end.end
+  pub beyond : LAST_LSN < plan.config.lsn + end.end
 
 -- the statuses at which a script was run to its end, and trails and disks are handed back
 abbrev pub HasEnded : ℕ → Option FaultAt → Type 0

@@ -1,5 +1,6 @@
 -- What a thread's answers are, by its commands.
-use Rattle.std.specs.Prelude.{ℕ, List, [], ◌∷◌, ◌++◌, ◌≡◌, ◌==◌, ◌&&◌, ◌<◌, ◌≤◌, ◌⊎◌, MatchOption, drop, length, filter, reverse, take}
+use Rattle.std.specs.Prelude.{ℕ, zero, suc, Bool, true, false, List, [], ◌∷◌, ◌++◌, ◌≡◌, ◌==◌, ◌&&◌, ◌<◌, ◌≤◌, ◌+◌, ◌-◌, ◌⊎◌, MatchOption, drop, length, filter, reverse, take}
+use Rattle.page_ids.specs.declared.ids.PageId.{PageId}
 use Rattle.trail.specs.declared.event.Call.{Call}
 use Rattle.trail.specs.declared.event.Call.TheVariants as call
 use Rattle.trail.specs.declared.event.Cause.{Cause}
@@ -18,6 +19,11 @@ use Rattle.trail.specs.Legal.{written_pages}
 use Rattle.trail.specs.Calls.{is_answer, held_by, newest_fix}
 use Rattle.script_text.specs.declared.script.Command.{Command}
 use Rattle.script_text.specs.declared.script.Command.TheVariants as command
+
+-- whether the command is one call
+abbrev pub is_one_call : Command → Bool
+is_one_call (command.Scan from last now) = false
+is_one_call _ = true
 
 -- the answers of a caller, in order
 abbrev pub answers_of : ℕ → List Event → List Event
@@ -67,9 +73,36 @@ Answers h k (command.Unfix p) earlier e = MatchOption (newest_fix (held_by earli
     (λ held. IsReceiptOf (note.Unfixed p held.frame held.number) e)
 Answers h k (command.Clean bound) earlier e = ((written : ℕ) × IsEntryOf (kind.Clean written []) e × (written ≤ bound) × (written < bound → WritesAll h written e)) ⊎ IsRefusal (call.Clean bound) e
 Answers h k command.Checkpoint earlier e = (lsn : ℕ) × IsEntryOf (kind.Check lsn) e
+Answers h k (command.Scan from last now) earlier e = ⊥
 
--- The answers of one command, where its trail has this history: one of each command so far; a command of several calls has several.
+-- A page was fixed by an entry, four bytes of it were read at 38, and just that fix was given back.
+pub record IsLookedAt (p : PageId) (now : ℕ) (answers : List Event) : Type 0 where
+  pub fix : Entry
+  pub frame : ℕ
+  pub clock : ℕ
+  pub bytes : List ℕ
+  pub seen : ℕ
+  pub read : Event
+  pub unfix : Event
+  pub answers_are : answers ≡ event.Entry fix ∷ read ∷ unfix ∷ []
+  pub granted : fix.kind ≡ kind.Fix p frame clock now
+  pub four : length bytes ≡ 4
+  pub copied : IsReceiptOf (note.Copied p 38 bytes seen) read
+  pub unfixed : IsReceiptOf (note.Unfixed p frame fix.number) unfix
+
+-- the answers to a page of a scan: it was looked at, or its fix was refused
+abbrev pub Looks : PageId → ℕ → List Event → Type 0
+Looks p now answers = IsLookedAt p now answers ⊎ ((e : Event) × (answers ≡ e ∷ []) × IsRefusal (call.Fix p now) e)
+
+-- the answers to so many pages from this one on, in rising order
+abbrev pub Scans : PageId → ℕ → ℕ → List Event → Type 0
+Scans first now zero answers = answers ≡ []
+Scans first now (suc n) answers = (before : List Event) × (here : List Event) × (answers ≡ before ++ here) × Scans first now n before
+    × Looks (record { space = first.space; page = first.page + n }) now here
+
+-- The answers of one command, where its trail has this history: one, and of a scan those to its pages.
 abbrev pub Makes : List Entry → ℕ → Command → List Event → List Event → Type 0
+Makes h k (command.Scan from last now) earlier mine = Scans from now (last - from.page + 1) mine
 Makes h k c earlier mine = (e : Event) × (mine ≡ e ∷ []) × Answers h k c earlier e
 
 -- at its end a thread gives back what it holds, the newest first

@@ -4,6 +4,7 @@ use Rattle.std.specs.List.{AllByRecursion}
 use Rattle.page_ids.specs.Content.{Content, IsRange}
 use Rattle.page_ids.specs.declared.ids.PageId.{PageId}
 use Rattle.page_ids.specs.declared.config.Config.{Config}
+use Rattle.page_ids.specs.declared.limits.TheConstants.{MOST_FIXES}
 use Rattle.page_disk.specs.Disks.{DiskSeen, pages_in}
 use Rattle.trail.specs.declared.event.Receipt.{Receipt}
 use Rattle.trail.specs.declared.event.Note.{Note}
@@ -29,6 +30,7 @@ use Rattle.desk.specs.Base.{Opened}
 use Rattle.desk.specs.Behind.{IsBehind}
 use Rattle.desk.specs.Changes.{LeavesDesk}
 use Rattle.desk.specs.Logged.{IsLogged}
+use Rattle.desk.specs.Moments.{IsEmptyHanded}
 use Rattle.desk.specs.declared.calls.Granted.{Granted}
 use Rattle.desk.specs.declared.calls.FixErr.{FixErr}
 use Rattle.desk.specs.declared.calls.FixErr.TheVariants as refusal
@@ -98,7 +100,7 @@ pub record SoFar {D : Type 0} (seen : D → DiskSeen) (o : Opening) (start : Sta
   pub calls : IsCalling (own worker.pass past) worker.next pending
   -- no chunks came or went, and between calls no frame is in hand
   pub steady : AreSteady desk.history
-  pub empty_handed : pending ≡ [] → (book desk.config desk.history).hand ≡ None
+  pub empty_handed : pending ≡ [] → (book desk.config desk.history).hands ≡ []
   pub held : held_by past worker.pass ≡ worker.fixed
   pub falling : AreFalling worker.next worker.fixed
   pub alone : AreOf worker.pass past
@@ -160,11 +162,12 @@ AreHeld rows fixed = (f : ℕ) → f < length rows → (row_in rows f).held ≡ 
 -- What the next call of a worker with these fixes needs of desk and frames, and leaves true. A pass may hold 64.
 pub record IsReady {D : Type 0} (seen : D → DiskSeen) (desk : State D) (frames : Plain) (fixed : List Held) : Type 0 where
   pub tied : AreTied seen (seen_of frames) desk
+  pub hands : IsEmptyHanded desk
   pub homes : AreInChunk desk.config desk.history
   pub apart : AreApart desk.history
   pub housed : AreHoused desk.history fixed
   pub held : AreHeld frames.rows fixed
-  pub few : length fixed ≤ 64
+  pub few : length fixed ≤ MOST_FIXES
 
 -- the frame is there and not latched, and no frame is visited
 pub record IsAtRest (frames : Plain) (f : ℕ) : Type 0 where

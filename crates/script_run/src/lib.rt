@@ -10,6 +10,7 @@ pub mod no_device;
 pub mod outcome;
 pub mod pass;
 pub mod runner;
+pub mod scans;
 pub mod worker;
 
 pub use no_device::plain;

@@ -3,6 +3,7 @@ ghost use Rattle.std.specs.Prelude.{◌≡◌, ◌++◌, ◌⊎◌, ℕ, List, S
 ghost use Rattle.page_ids.specs.Faults.{Rose};
 ghost use Rattle.script_text.specs.Printed.{plan_text};
 ghost use Rattle.script_run.specs.Runs.{AreRun, IsSilent};
+ghost use Rattle.script_run.specs.Ends.{IsTakenWithin};
 ghost use Rattle.script_run.specs.Plain.{streams, IsChecked, IsPlainEnd};
 
 use crate::ends::{NoScript, take_script, write_all};
@@ -34,6 +35,7 @@ fn print<K: Sink>(alloc: Global, script: &Script, out: &mut K) -> u8
 fn check<S: Source, K: Sink>(alloc: Global, input: &mut S, out: &mut K) -> Plain
     ensures checked { IsChecked (streams (S.left input.old) (S.fault_count input.old) (K.held out.old) (K.fault_count out.old))
         (streams (S.left input.new) (S.fault_count input.new) (K.held out.new) (K.fault_count out.new)) result }
+    ensures taken { IsTakenWithin 0 1048577 (S.left input.old) (S.left input.new) }
     ensures unwritten { IsSilent result.status → out.new ≡ out.old }
 {
     match take_script(alloc, input) {

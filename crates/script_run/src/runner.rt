@@ -3,12 +3,12 @@ ghost use Rattle.std.specs.Prelude.{◌≡◌, ◌≢◌, ◌≤◌, ◌<◌, �
 ghost use Rattle.std.specs.List.{list_any};
 ghost use Rattle.page_ids.specs.Size.{page_bytes};
 ghost use Rattle.page_ids.specs.Faults.{Rose};
+ghost use Rattle.page_ids.specs.declared.limits.TheConstants.{CLOCK_BITS, LAST_LSN};
 ghost use Rattle.page_disk.specs.Shelves.{unasked};
 ghost use Rattle.page_disk.specs.declared.shelf.FaultAt.{FaultAt};
 ghost use Rattle.redo_mark.specs.Device.{IsAsOpened};
 ghost use Rattle.redo_mark.specs.Logs.{IsLater, IsKept};
-ghost use Rattle.trail.specs.Trails.{AreNumbered, mark};
-ghost use Rattle.trail.specs.Merging.{AllWithin, merged};
+ghost use Rattle.trail.specs.Merging.{IsMerged};
 ghost use Rattle.trail.specs.Spelling.{trail_text};
 ghost use Rattle.trail.specs.Dirt.{dirty, log_end};
 ghost use Rattle.desk.specs.Base.{Opened};
@@ -21,27 +21,24 @@ ghost use Rattle.script_run.specs.Work.{IsReady, IsBehindIt};
 ghost use Rattle.script_run.specs.Runs.{IsFlushFault, IsFlushedWith, IsClosed, IsEndedRun, IsEnded, IsLongLog, IsLogAsOpened, HasEnded, IsRunStatus, IsSilent, IsNoScript, AreSynced};
 ghost use Rattle.script_run.specs.Runs.{IsWritten, IsWrittenInPart, AreRun, IsAskedOnce, disk_as, log_as, is_refused, has_refusal};
 
-use crate::ends::{ReadErr, read_all, write_all};
+use crate::ends::{NoScript, take_script, write_all};
 use crate::outcome::{Outcome, bare};
 use crate::pass::Pass;
 use crate::worker::work;
 use desk::{Caller, CleanErr, Desk, clean_disk_holds_the_values, dirty_pages_are_few};
 use frame_words::PlainFrames;
 use page_disk::{FaultAt, PageDisk, Shelf, Sink, Source};
-use page_ids::OutOfMemory;
+use page_ids::{LAST_LSN, OutOfMemory};
 use redo_mark::{Redo, RedoDisk, RedoEnd};
-use script_text::{Program, Script, ScriptErr, WordsErr, command_of, read_script};
+use script_text::{Program, Script, WordsErr, command_of};
 use std::alloc::Global;
 use trail::{
     Entry, Event, Kind, Note, Receipt, Trail, a_clean_history_is_durable, dirty_pages_are_apart,
-    merge, one_account_merges, text,
+    merge, one_trail_is_merged, text,
 };
 
 /// The closing flush takes all dirty pages: an instance has at most so many frames.
 const ALL: u32 = 16_384;
-
-/// No LSN is above this.
-const LSN_MAX: u64 = 1 << 63;
 
 /// A script that was run: its trail, its disk, its log, and the fault of the closing flush.
 #[derive(Drop)]
@@ -87,7 +84,7 @@ fn close<D: PageDisk, R: RedoDisk>(
     frames: &mut PlainFrames,
     redo: &mut Redo<R>,
 ) -> Result<Option<FaultAt>, OutOfMemory>
-    requires places { desk.old.state.config.first + length desk.old.state.history + length (dirty desk.old.state.history) + 1 < 2 ^ 48 }
+    requires places { desk.old.state.config.first + length desk.old.state.history + length (dirty desk.old.state.history) + 1 < 2 ^ CLOCK_BITS }
     requires ready { IsReady D.seen desk.old.state frames.old [] }
     requires frames { desk.old.state.config.frames ≤ 8192 }
     requires known { log_end desk.old.state.history ≤ redo.old.seen.end }
@@ -123,9 +120,7 @@ fn trail_of(
     account: Vec<Receipt>,
 ) -> Result<Trail, OutOfMemory>
     ensures first { IfOk result (λ trail. trail.first ≡ first) }
-    ensures events { IfOk result (λ trail. AreNumbered first (reverse history.items)
-        → AllWithin (mark first (reverse history.items)) (account.items ∷ [])
-        → trail.events ≡ merged first history.items (account.items ∷ [])) }
+    ensures merged { IfOk result (λ trail. IsMerged history.items account.items trail.events) }
 {
     let mut room = Vec::new(alloc);
     room.reserve(history.len() + account.len())?;
@@ -143,7 +138,7 @@ fn run_on<D: PageDisk, R: RedoDisk>(
 ) -> Result<Ended<D, R>, OutOfMemory>
     requires size { (D.seen disk).size ≡ page_bytes script.now.config.page }
     requires script { IsWithin script.now }
-    requires limit { script.now.config.lsn + (R.seen log).opened ≤ 2 ^ 63 }
+    requires limit { script.now.config.lsn + (R.seen log).opened ≤ LAST_LSN }
     requires opened { IsAsOpened (R.seen log).opened (R.seen log).told }
     ensures run { IfOk result (λ e. IsEndedRun (disk_as (D.seen disk)) (log_as (R.seen log)) D.seen R.seen
         script.now e.fault (e.trail ∷ []) (e.disk ∷ []) (Some e.redo)) }
@@ -174,7 +169,7 @@ fn run_on<D: PageDisk, R: RedoDisk>(
     let (disk, history) = desk.end();
     let redo = redo.close();
     let trail = trail_of(alloc, config.first, history, pass.into_account())?;
-    one_account_merges();
+    one_trail_is_merged();
     dirty_pages_are_apart();
     a_clean_history_is_durable();
     clean_disk_holds_the_values::<D>();
@@ -285,7 +280,7 @@ fn run_script<K: Sink, H: Shelf>(
     ensures ended { HasEnded result.status result.fault → IsEndedRun ((H.seen shelf.old).disks 0) (H.seen shelf.old).log H.Disk.seen H.Redo.seen
         script.now result.fault result.trails.items result.disks.items result.redo }
     ensures long { result.status ≡ 3 → IsSomeAnd result.redo (λ r. IsLogAsOpened (H.seen shelf.old).log.told
-        H.Redo.seen r × (2 ^ 63 < script.now.config.lsn + r.end)) }
+        H.Redo.seen r × (LAST_LSN < script.now.config.lsn + r.end)) }
     ensures bare { (HasEnded result.status result.fault → ⊥) → (result.trails.items ≡ []) × (result.disks.items ≡ [])
         × (result.fault ≡ None) × (result.status ≢ 3 → result.redo ≡ None) }
     ensures fault { IfSome result.fault (λ f. (result.status ≡ 6) × IsFlushFault f) }
@@ -305,7 +300,7 @@ fn run_script<K: Sink, H: Shelf>(
     let Ok(log) = shelf.redo(config) else {
         return bare(alloc, 6, 0);
     };
-    if LSN_MAX - config.lsn < log.end() {
+    if LAST_LSN - config.lsn < log.end() {
         return too_long(alloc, log);
     }
     let Ok(
@@ -392,14 +387,10 @@ pub fn run<R, S: Source, K: Sink, H: Shelf>(
         Err(WordsErr::Usage) => return bare(alloc, 2, 0),
         Err(WordsErr::OutOfMemory) => return bare(alloc, 7, 0),
     }
-    let bytes = match read_all(alloc, script) {
-        Ok(bytes) => bytes,
-        Err(ReadErr::Fault) => return bare(alloc, 4, 0),
-        Err(ReadErr::OutOfMemory) => return bare(alloc, 7, 0),
-    };
-    match read_script(alloc, bytes.as_slice()) {
+    match take_script(alloc, script) {
         Ok(plan) => run_script(alloc, &plan, out, shelf),
-        Err(ScriptErr::BadLine { line }) => bare(alloc, 3, line),
-        Err(ScriptErr::OutOfMemory) => bare(alloc, 7, 0),
+        Err(NoScript::Fault) => bare(alloc, 4, 0),
+        Err(NoScript::Bad { line }) => bare(alloc, 3, line),
+        Err(NoScript::OutOfMemory) => bare(alloc, 7, 0),
     }
 }

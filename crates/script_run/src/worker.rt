@@ -1,16 +1,19 @@
 //! A thread of a script: its calls, one after the other.
-ghost use Rattle.page_ids.specs.declared.limits.TheConstants.{LIMIT};
-ghost use Rattle.std.specs.Prelude.{◌≡◌, ◌<◌, ◌≤◌, ◌+◌, ◌*◌, ◌^◌, List, [], Ok, OnOk, length, reverse};
+ghost use Rattle.page_ids.specs.declared.limits.TheConstants.{LIMIT, MOST_FIXES};
+ghost use Rattle.std.specs.Prelude.{true, ◌≡◌, ◌<◌, ◌≤◌, ◌+◌, ◌*◌, ◌^◌, List, [], Ok, OnOk, length, reverse};
 ghost use Rattle.std.specs.List.{AllByRecursion};
 ghost use Rattle.trail.specs.Trails.{Opening};
 ghost use Rattle.trail.specs.declared.event.Event.{Event};
 ghost use Rattle.script_text.specs.Within.{IsInRange};
+ghost use Rattle.script_text.specs.Grammar.{calls_of, calls_in};
 ghost use Rattle.redo_mark.specs.Logs.{Seen, IsLater};
 ghost use Rattle.trail.specs.Dirt.{log_end};
 ghost use Rattle.desk.specs.Base.{Opened};
 ghost use Rattle.desk.specs.Changes.{LeavesDesk};
 ghost use Rattle.script_run.specs.Openings.{Start};
 ghost use Rattle.script_run.specs.Work.{SoFar, StandsBehind, IsBehindIt, Does, Along, IsReady, Progress, Ending, Worked};
+ghost use Rattle.script_run.specs.Several.{AlongFew, Done};
+ghost use Rattle.script_run.specs.Todo.{is_one_call};
 ghost use Rattle.script_run.specs.Workers.{working};
 
 use crate::pass::Pass;
@@ -22,8 +25,8 @@ use redo_mark::{Redo, RedoDisk};
 use script_text::script::Command;
 use std::alloc::Global;
 
-/// Does one command.
-fn step<D: PageDisk, R: RedoDisk>(
+/// Makes the one call of a command.
+fn call<D: PageDisk, R: RedoDisk>(
     pass: &mut Pass,
     alloc: Global,
     desk: &mut Desk<D>,
@@ -35,6 +38,7 @@ fn step<D: PageDisk, R: RedoDisk>(
     requires number { pass.old.next + 1 < 2 ^ 32 }
     requires ready { IsReady D.seen desk.old.state frames.old (reverse pass.old.fixed.items) }
     requires range { IsInRange desk.old.state.config.page command.now }
+    requires one { is_one_call command.now ≡ true }
     requires known { log_end desk.old.state.history ≤ redo.old.seen.end }
     ensures along { OnOk result (Along D.seen 1
         desk.old.state desk.new.state frames.old frames.new redo.old.seen redo.new.seen (working pass.old) (working pass.new)) }
@@ -59,6 +63,37 @@ fn step<D: PageDisk, R: RedoDisk>(
         Command::Unfix { page } => pass.unfix(desk, frames, *page),
         Command::Clean { bound } => pass.clean(desk, frames, redo, *bound),
         Command::Checkpoint => pass.checkpoint(desk, redo),
+        Command::Scan { .. } => unreachable!(),
+    }
+}
+
+/// Does one command.
+fn step<D: PageDisk, R: RedoDisk>(
+    pass: &mut Pass,
+    alloc: Global,
+    desk: &mut Desk<D>,
+    frames: &mut PlainFrames,
+    redo: &mut Redo<R>,
+    command: &Command,
+) -> Result<(), OutOfMemory>
+    requires places { desk.old.state.config.first + 2 * length desk.old.state.history + 32770 * calls_of 1 command.now ≤ LIMIT }
+    requires number { pass.old.next + calls_of 1 command.now < 2 ^ 32 }
+    requires ready { IsReady D.seen desk.old.state frames.old (reverse pass.old.fixed.items) }
+    requires range { IsInRange desk.old.state.config.page command.now }
+    requires known { log_end desk.old.state.history ≤ redo.old.seen.end }
+    ensures along { OnOk result (AlongFew D.seen (calls_of 1 command.now)
+        desk.old.state desk.new.state frames.old frames.new redo.old.seen redo.new.seen (working pass.old) (working pass.new)) }
+    ensures done { OnOk result ((o : Opening) (start : Start) (past : List Event)
+        → SoFar D.seen o start desk.old.state redo.old.seen (working pass.old) past []
+        → StandsBehind D.seen o start desk.old.state frames.old
+        → Done D.seen o start desk.new.state redo.new.seen (working pass.new) past command.now) }
+    ensures opening { redo.new.opening ≡ redo.old.opening }
+{
+    match command {
+        Command::Scan { from, last, now } => pass.scan(
+            alloc, desk, frames, redo, *from, *last, *now,
+        ),
+        _ => call(pass, alloc, desk, frames, redo, command),
     }
 }
 
@@ -71,12 +106,12 @@ fn do_all<D: PageDisk, R: RedoDisk>(
     redo: &mut Redo<R>,
     commands: &[Command],
 ) -> Result<(), OutOfMemory>
-    requires places { desk.old.state.config.first + 2 * length desk.old.state.history + 32770 * length commands.now ≤ LIMIT }
-    requires number { pass.old.next + length commands.now < 2 ^ 32 }
+    requires places { desk.old.state.config.first + 2 * length desk.old.state.history + 32770 * calls_in 1 commands.now ≤ LIMIT }
+    requires number { pass.old.next + calls_in 1 commands.now < 2 ^ 32 }
     requires ready { IsReady D.seen desk.old.state frames.old (reverse pass.old.fixed.items) }
     requires ranges { AllByRecursion (IsInRange desk.old.state.config.page) commands.now }
     requires known { log_end desk.old.state.history ≤ redo.old.seen.end }
-    ensures along { OnOk result (Along D.seen (length commands.now)
+    ensures along { OnOk result (AlongFew D.seen (calls_in 1 commands.now)
         desk.old.state desk.new.state frames.old frames.new redo.old.seen redo.new.seen (working pass.old) (working pass.new)) }
     ensures done { OnOk result ((o : Opening) (start : Start) (past : List Event)
         → SoFar D.seen o start desk.old.state redo.old.seen (working pass.old) past []
@@ -122,14 +157,14 @@ pub fn work<D: PageDisk, R: RedoDisk>(
     redo: &mut Redo<R>,
     commands: &[Command],
 ) -> Result<(), OutOfMemory>
-    requires places { desk.old.state.config.first + 2 * length desk.old.state.history + 32770 * length commands.now ≤ LIMIT }
-    requires number { pass.old.next + length commands.now + 64 < 2 ^ 32 }
+    requires places { desk.old.state.config.first + 2 * length desk.old.state.history + 32770 * calls_in 1 commands.now ≤ LIMIT }
+    requires number { pass.old.next + calls_in 1 commands.now + MOST_FIXES < 2 ^ 32 }
     requires new { length pass.old.fixed.items ≡ 0 }
     requires ready { IsReady D.seen desk.old.state frames.old (reverse pass.old.fixed.items) }
     requires ranges { AllByRecursion (IsInRange desk.old.state.config.page) commands.now }
     requires known { log_end desk.old.state.history ≤ redo.old.seen.end }
     ensures left { OnOk result (LeavesDesk D.seen desk.old.state desk.new.state) }
-    ensures grown { OnOk result (length desk.new.state.history ≤ length desk.old.state.history + 16385 * length commands.now) }
+    ensures grown { OnOk result (length desk.new.state.history ≤ length desk.old.state.history + 16385 * calls_in 1 commands.now) }
     ensures ready { OnOk result (IsReady D.seen desk.new.state frames.new []) }
     ensures behind { OnOk result ((o : Opened) → IsBehindIt D.seen o desk.old.state frames.old
         → IsBehindIt D.seen o desk.new.state frames.new) }

@@ -10,15 +10,16 @@ use Rattle.std.proofs.lemmas.List.Splits.{join_with_byte-slice_split}
 use Rattle.page_ids.specs.Numerals.{number_of, cut_at}
 use Rattle.page_ids.specs.Spelling.{page_text, hex}
 use Rattle.page_ids.specs.declared.ids.PageId.{PageId}
-use Rattle.script_text.specs.Text.{command_words, item_words, setting_name, is_nothing, IsPageId, IsTyped, IsTypedItem, IsSpelled}
-use Rattle.script_text.specs.Reading.{page_of, hex_of, keyword_text, found, keywords, keyword_of, one, two, three, fix_of, create_of, read_of, put_of, unfix_of, clean_of, checkpoint_of, thread_of, set_of, said_by, words_say, line_says}
+use Rattle.page_ids.specs.Typed.{FitsId}
+use Rattle.script_text.specs.Text.{range_text, command_words, item_words, setting_name, is_nothing, IsTyped, IsTypedItem, IsSpelled}
+use Rattle.script_text.specs.Reading.{page_of, range_of, hex_of, keyword_text, found, keywords, keyword_of, one, two, three, fix_of, create_of, read_of, put_of, unfix_of, scan_of, clean_of, checkpoint_of, thread_of, set_of, said_by, words_say, line_says}
 use Rattle.page_ids.proofs.Cuts.{Lacks, decimal_lacks, cut_here, cut_is}
 use Rattle.page_ids.proofs.Numbers.{number_of-decimal, number_is}
 use Rattle.script_text.proofs.Hex.{hex_read, hex_is}
-use Rattle.script_text.proofs.Lacking.{words_lack}
+use Rattle.script_text.proofs.Lacking.{words_lack, page_lacks}
 use Rattle.script_text.proofs.Cuts.{words_joined}
 use Rattle.script_text.specs.declared.script.Command.{Command}
-use Rattle.script_text.specs.declared.script.Command.TheVariants.{Fix, Create, Read, Put, Unfix, Clean, Checkpoint}
+use Rattle.script_text.specs.declared.script.Command.TheVariants.{Fix, Create, Read, Put, Unfix, Scan, Clean, Checkpoint}
 use Rattle.page_ids.specs.declared.config.Field.{Field}
 use Rattle.page_ids.specs.declared.config.Field.TheVariants.{Page, Instances, Frames, Size, Max, OldPct, OldTime, OldMin, Lsn, First}
 use Rattle.script_text.specs.declared.lines.Item.{Item}
@@ -30,21 +31,37 @@ use Rattle.script_text.specs.declared.lines.Keyword.TheVariants as keyword
 wide : (n : ℕ) → n < 2 ^ 32 → n < 2 ^ 64
 wide n small = omega arith
 
-page_of-text : (p : PageId) → IsPageId p → page_of (page_text p) ≡ Some p
+page_of-text : (p : PageId) → FitsId p → page_of (page_text p) ≡ Some p
 page_of-text p h =
     let cuts = cut_here 58 (decimal p.space) (decimal p.page) (decimal_lacks 58 p.space (inr (lit< tt)) (wide _ h.0)) in
     let space = number_of-decimal (2 ^ 32) p.space (wide _ h.0) h.0 in
     let page = number_of-decimal (2 ^ 32) p.page (wide _ h.1) h.1 in
     rw cuts (rw space (rw page refl))
 
-page_is : (w : List ℕ) (p : PageId) → page_of w ≡ Some p → (w ≡ page_text p) × IsPageId p
+page_is : (w : List ℕ) (p : PageId) → page_of w ≡ Some p → (w ≡ page_text p) × FitsId p
 page_is w p e = option_and_then_some _ (cut_at 58 w) p e (λ r cuts e1. option_and_then_some _ (number_of (2 ^ 32) r.0) p e1 (λ s space e2. option_and_then_some _ (number_of (2 ^ 32) r.1) p e2 (λ k page e3.
     let first = number_is (2 ^ 32) s r.0 (lit≤ tt) space in
     let second = number_is (2 ^ 32) k r.1 (lit≤ tt) page in
     let whole : w ≡ r.0 ++ 58 ∷ r.1 = cut_is 58 w r.0 r.1 cuts in
     let same : ◌≡◌ {A = PageId} (record { space = s; page = k }) p = cc in
     let spelled : w ≡ decimal s ++ 58 ∷ decimal k = whole ∙ ap (λ a. a ++ 58 ∷ r.1) first.0 ∙ ap (λ b. decimal s ++ 58 ∷ b) second.0 in
-    subst (λ (q : PageId). (w ≡ page_text q) × IsPageId q) same (spelled, (first.1, second.1)))))
+    subst (λ (q : PageId). (w ≡ page_text q) × FitsId q) same (spelled, (first.1, second.1)))))
+
+range_of-text : (p : PageId) (last : ℕ) → FitsId p → last < 2 ^ 32 → range_of (range_text p last) ≡ Some (p, last)
+unfolding range_of
+range_of-text p last h fits =
+    let cuts = cut_here 45 (page_text p) (decimal last) (page_lacks 45 p (lit< tt) h) in
+    rw cuts (rw (page_of-text p h) (rw (number_of-decimal (2 ^ 32) last (wide _ fits) fits) refl))
+
+range_is : (w : List ℕ) (r : PageId × ℕ) → range_of w ≡ Some r → (w ≡ range_text r.0 r.1) × FitsId r.0 × (r.1 < 2 ^ 32)
+unfolding range_of
+range_is w r e = option_and_then_some _ (cut_at 45 w) r e (λ c cuts e1. option_and_then_some _ (page_of c.0) r e1 (λ p page e2. option_and_then_some _ (number_of (2 ^ 32) c.1) r e2 (λ n last e3.
+    let first = page_is c.0 p page in
+    let second = number_is (2 ^ 32) n c.1 (lit≤ tt) last in
+    let whole : w ≡ c.0 ++ 45 ∷ c.1 = cut_is 45 w c.0 c.1 cuts in
+    let same : ◌≡◌ {A = PageId × ℕ} (p, n) r = cc in
+    let spelled : w ≡ range_text p n = whole ∙ ap (λ a. a ++ 45 ∷ c.1) first.0 ∙ ap (λ b. page_text p ++ 45 ∷ b) second.0 in
+    subst (λ (q : PageId × ℕ). (w ≡ range_text q.0 q.1) × FitsId q.0 × (q.1 < 2 ^ 32)) same (spelled, first.1, second.1))))
 
 -- how many words stand behind the keyword
 one_some : {P : Type 0} (f : List ℕ → Option Item) (args : List (List ℕ)) (i : Item) → one f args ≡ Some i → ((a : List ℕ) → args ≡ a ∷ [] → f a ≡ Some i → P) → P
@@ -148,6 +165,14 @@ unfix_words args i e = one_some _ args i e (λ p shape e1. option_and_then_some 
     let words : args ≡ page_text page ∷ [] = simp (shape, a.0) in
     subst (λ (j : Item). IsWords j (codes "unfix" ∷ args)) same (ap (λ r. codes "unfix" ∷ r) words, a.1)))
 
+scan_words : (args : List (List ℕ)) (i : Item) → scan_of args ≡ Some i → IsWords i (codes "scan" ∷ args)
+scan_words args i e = two_some _ args i e (λ r t shape e1. option_and_then_some _ (range_of r) i e1 (λ pages pe e2. option_and_then_some _ (number_of (2 ^ 64) t) i e2 (λ now te e3.
+    let a = range_is r pages pe in
+    let b = number_is (2 ^ 64) now t (lit≤ tt) te in
+    let same : Does (Scan pages.0 pages.1 now) ≡ i = cc in
+    let words : args ≡ range_text pages.0 pages.1 ∷ decimal now ∷ [] = simp (shape, a.0, b.0) in
+    subst (λ (j : Item). IsWords j (codes "scan" ∷ args)) same (ap (λ r. codes "scan" ∷ r) words, (a.1, a.2, b.1)))))
+
 clean_words : (args : List (List ℕ)) (i : Item) → clean_of args ≡ Some i → IsWords i (codes "clean" ∷ args)
 clean_words args i e = one_some _ args i e (λ n shape e1. option_and_then_some _ (number_of (2 ^ 32) n) i e1 (λ bound ne e2.
     let a = number_is (2 ^ 32) bound n (lit≤ tt) ne in
@@ -167,6 +192,7 @@ said_words keyword.Create args i e = create_words args i e
 said_words keyword.Read args i e = read_words args i e
 said_words keyword.Put args i e = put_words args i e
 said_words keyword.Unfix args i e = unfix_words args i e
+said_words keyword.Scan args i e = scan_words args i e
 said_words keyword.Clean args i e = clean_words args i e
 said_words keyword.Checkpoint args i e = checkpoint_words args i e
 
@@ -212,6 +238,8 @@ command_read (Read p at len) line e h = by_words (Does (Read p at len)) line _ _
 command_read (Put p at bytes) line e h = by_words (Does (Put p at bytes)) line _ _ refl h refl
     (rw (page_of-text p h.0) (rw (number_of-decimal (2 ^ 32) at (wide _ h.1) h.1) (rw (hex_read bytes h.2) refl))) e
 command_read (Unfix p) line e h = by_words (Does (Unfix p)) line _ _ refl h refl (rw (page_of-text p h) refl) e
+command_read (Scan from last now) line e h = by_words (Does (Scan from last now)) line _ _ refl h refl
+    (rw (range_of-text from last h.0 h.1) (rw (number_of-decimal (2 ^ 64) now h.2 h.2) refl)) e
 command_read (Clean bound) line e h = by_words (Does (Clean bound)) line _ _ refl h refl (rw (number_of-decimal (2 ^ 32) bound (wide _ h) h) refl) e
 command_read Checkpoint line e h = by_words (Does Checkpoint) line _ _ refl h refl refl e
 

@@ -6,7 +6,7 @@ use Rattle.std.proofs.lemmas.Bool.Decides.{nat_tests}
 use Rattle.std.proofs.lemmas.List.{append_assoc, take_all}
 use Rattle.std.proofs.lemmas.Option.{option_and_then_some}
 use Rattle.page_ids.specs.Spelling.{hex}
-use Rattle.script_text.specs.Text.{AreBytes}
+use Rattle.page_ids.specs.Typed.{AreBytes}
 use Rattle.script_text.specs.Reading.{hex_digit, byte_of, hex_of}
 
 glyph_read : (d : ℕ) → d < 16 → hex_digit (digit_glyph false d) ≡ Some d

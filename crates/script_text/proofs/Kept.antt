@@ -21,7 +21,7 @@ use Rattle.script_text.specs.Verdict.{IsScript, plan_of}
 use Rattle.script_text.specs.Within.{IsInRange, IsWithin}
 use Rattle.script_text.specs.declared.script.TheConstants.{MOST_CALLS, THREADS}
 use Rattle.script_text.specs.declared.script.Command.{Command}
-use Rattle.script_text.specs.declared.script.Command.TheVariants.{Fix, Create, Read, Put, Unfix, Clean, Checkpoint}
+use Rattle.script_text.specs.declared.script.Command.TheVariants.{Fix, Create, Read, Put, Unfix, Scan, Clean, Checkpoint}
 use Rattle.script_text.specs.declared.lines.Item.{Item}
 use Rattle.script_text.specs.declared.lines.Item.TheVariants.{Nothing, Set, Thread, Does}
 use Rattle.script_text.proofs.Threads.{at_end}
@@ -38,9 +38,10 @@ record Kept (s : SoFar) : Type 0 where
 in_range : (size : PageSize) (c : Command) → IsTyped c → is_in_range size c ≡ true → IsInRange size c
 in_range size (Fix p now) h r = h
 in_range size (Create p now) h r = h
-in_range size (Read p at len) h r = (h.0, grind (arith, nat_tests), grind (arith, nat_tests), grind (arith, nat_tests), grind (arith, nat_tests))
-in_range size (Put p at bytes) h r = (h.0, grind (arith, nat_tests), grind (arith, nat_tests), grind (arith, nat_tests), grind (arith, nat_tests), h.2)
+in_range size (Read p at len) h r = (h.0, grind (arith, nat_tests), record { some = grind (arith, nat_tests); header = grind (arith, nat_tests); trailer = grind (arith, nat_tests) })
+in_range size (Put p at bytes) h r = (h.0, grind (arith, nat_tests), record { some = grind (arith, nat_tests); header = grind (arith, nat_tests); trailer = grind (arith, nat_tests) }, h.2)
 in_range size (Unfix p) h r = h
+in_range size (Scan from last now) h r = (h.0, grind (arith, nat_tests), grind (arith, nat_tests), h.1, h.2)
 in_range size (Clean bound) h r = grind (arith, nat_tests)
 in_range size Checkpoint h r = tt
 

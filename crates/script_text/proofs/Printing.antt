@@ -21,7 +21,7 @@ use Rattle.script_text.specs.Verdict.{IsScript}
 use Rattle.script_text.specs.Within.{IsInRange, IsWithin}
 use Rattle.script_text.specs.declared.script.TheConstants.{MOST_CALLS, SCRIPT_BYTES, THREADS}
 use Rattle.script_text.specs.declared.script.Command.{Command}
-use Rattle.script_text.specs.declared.script.Command.TheVariants.{Fix, Create, Read, Put, Unfix, Clean, Checkpoint}
+use Rattle.script_text.specs.declared.script.Command.TheVariants.{Fix, Create, Read, Put, Unfix, Scan, Clean, Checkpoint}
 use Rattle.script_text.specs.declared.lines.Item.{Item}
 use Rattle.script_text.specs.declared.lines.Item.TheVariants.{Nothing, Set, Thread, Does}
 use Rattle.script_text.proofs.Lacking.{words_lack, line_lacks}
@@ -172,18 +172,20 @@ all_set c = ap (λ (size : PageSize). set_up (record c { page = size })) (size_b
 typed_of : (size : PageSize) (c : Command) → IsInRange size c → IsTyped c
 typed_of size (Fix p now) h = h
 typed_of size (Create p now) h = h
-typed_of size (Read p at len) h = (h.0, omega (arith, page_small size, h.4), omega (arith, h.2))
-typed_of size (Put p at bytes) h = (h.0, omega (arith, page_small size, h.4), h.5)
+typed_of size (Read p at len) h = (h.0, omega (arith, page_small size, h.2.trailer), omega (arith, h.1))
+typed_of size (Put p at bytes) h = (h.0, omega (arith, page_small size, h.2.trailer), h.3)
 typed_of size (Unfix p) h = h
+typed_of size (Scan from last now) h = (h.0, h.3, h.4)
 typed_of size (Clean bound) h = omega (arith, h)
 typed_of size Checkpoint h = tt
 
 range_test : (size : PageSize) (c : Command) → IsInRange size c → is_in_range size c ≡ true
 range_test size (Fix p now) h = refl
 range_test size (Create p now) h = refl
-range_test size (Read p at len) h = grind (arith, nat_tests, h.1, h.2, h.3, h.4)
-range_test size (Put p at bytes) h = grind (arith, nat_tests, h.1, h.2, h.3, h.4)
+range_test size (Read p at len) h = grind (arith, nat_tests, h.1, h.2.some, h.2.header, h.2.trailer)
+range_test size (Put p at bytes) h = grind (arith, nat_tests, h.1, h.2.some, h.2.header, h.2.trailer)
 range_test size (Unfix p) h = refl
+range_test size (Scan from last now) h = grind (arith, nat_tests, h.1, h.2)
 range_test size (Clean bound) h = grind (arith, nat_tests, h)
 range_test size Checkpoint h = refl
 

@@ -1,6 +1,7 @@
 -- What the lines of a script make, one after the other: ranges, order and limits.
-use Rattle.std.specs.Prelude.{ℕ, Bool, true, false, List, [], ◌∷◌, ◌++◌, ◌≡◌, ◌==◌, ◌+◌, ◌-◌, ◌&&◌, nat_le, nat_lt, not, Option, None, Some, if◌then◌else◌, length, slice_index_or, slice_set, replicate}
+use Rattle.std.specs.Prelude.{ℕ, Bool, true, false, List, [], ◌∷◌, ◌++◌, ◌≡◌, ◌==◌, ◌+◌, ◌-◌, ◌*◌, ◌&&◌, nat_le, nat_lt, not, Option, None, Some, if◌then◌else◌, length, slice_index_or, slice_set, replicate}
 use Rattle.std.specs.List.{slice_split, sum_by}
+use Rattle.page_ids.specs.Content.{is_range}
 use Rattle.page_ids.specs.Size.{page_bytes}
 use Rattle.page_ids.specs.Fields.{is_within, is_settable}
 use Rattle.page_ids.specs.declared.config.Config.{Config}
@@ -9,7 +10,7 @@ use Rattle.page_ids.specs.declared.ids.PageSize.TheVariants.{Kib4, Kib8, Kib16}
 use Rattle.script_text.specs.Text.{IsSpelled}
 use Rattle.script_text.specs.declared.script.TheConstants.{MOST_CALLS, THREADS}
 use Rattle.script_text.specs.declared.script.Command.{Command}
-use Rattle.script_text.specs.declared.script.Command.TheVariants.{Fix, Create, Read, Put, Unfix, Clean, Checkpoint}
+use Rattle.script_text.specs.declared.script.Command.TheVariants.{Fix, Create, Read, Put, Unfix, Scan, Clean, Checkpoint}
 use Rattle.page_ids.specs.declared.config.Field.{Field}
 use Rattle.page_ids.specs.declared.config.Field.TheVariants.{Page, Instances, Frames, Size, Max, OldPct, OldTime, OldMin, Lsn, First}
 use Rattle.script_text.specs.declared.lines.Item.{Item}
@@ -72,17 +73,14 @@ with_setting c OldMin n = record c { old_min = n }
 with_setting c Lsn n = record c { lsn = n }
 with_setting c First n = record c { first = n }
 
--- so many bytes from there on are few, and lie between the header and the trailer of a page of this size
-abbrev pub is_in_body : PageSize → ℕ → ℕ → Bool
-is_in_body size at len = is_within 1 256 len && nat_le 38 at && nat_le (at + len) (page_bytes size - 8)
-
 -- the ranges of a command's numbers, for pages of this size
 abbrev pub is_in_range : PageSize → Command → Bool
 is_in_range size (Fix p now) = true
 is_in_range size (Create p now) = true
-is_in_range size (Read p at len) = is_in_body size at len
-is_in_range size (Put p at bytes) = is_in_body size at (length bytes)
+is_in_range size (Read p at len) = nat_le len 256 && is_range (page_bytes size) at len
+is_in_range size (Put p at bytes) = nat_le (length bytes) 256 && is_range (page_bytes size) at (length bytes)
 is_in_range size (Unfix p) = true
+is_in_range size (Scan from last now) = nat_le from.page last && nat_lt (last - from.page) 4096
 is_in_range size (Clean bound) = is_within 0 16384 bound
 is_in_range size Checkpoint = true
 
@@ -93,6 +91,7 @@ calls_of instances (Create p now) = 1
 calls_of instances (Read p at len) = 1
 calls_of instances (Put p at bytes) = 1
 calls_of instances (Unfix p) = 1
+calls_of instances (Scan from last now) = 3 * (last - from.page + 1)
 calls_of instances (Clean bound) = instances
 calls_of instances Checkpoint = instances
 

@@ -6,7 +6,7 @@ use Rattle.std.specs.Option.{option_and_then}
 use Rattle.page_ids.specs.Numerals.{number_of, cut_at}
 use Rattle.page_ids.specs.declared.ids.PageId.{PageId}
 use Rattle.script_text.specs.Text.{is_nothing, setting_name}
-use Rattle.script_text.specs.declared.script.Command.TheVariants.{Fix, Create, Read, Put, Unfix, Clean, Checkpoint}
+use Rattle.script_text.specs.declared.script.Command.TheVariants.{Fix, Create, Read, Put, Unfix, Scan, Clean, Checkpoint}
 use Rattle.page_ids.specs.declared.config.Field.{Field}
 use Rattle.page_ids.specs.declared.config.Field.TheVariants.{Page, Instances, Frames, Size, Max, OldPct, OldTime, OldMin, Lsn, First}
 use Rattle.script_text.specs.declared.lines.Item.{Item}
@@ -20,6 +20,10 @@ o >>= f = option_and_then f o
 
 abbrev pub page_of : List ℕ → Option PageId
 page_of word = cut_at 58 word >>= λ r. number_of (2 ^ 32) r.0 >>= λ space. number_of (2 ^ 32) r.1 >>= λ page. Some (record { space = space; page = page })
+
+-- a page, and the number of another one
+unfoldable pub range_of : List ℕ → Option (PageId × ℕ)
+range_of word = cut_at 45 word >>= λ r. page_of r.0 >>= λ from. number_of (2 ^ 32) r.1 >>= λ last. Some (from, last)
 
 -- what a lower-case hexadecimal digit stands for
 abbrev pub hex_digit : ℕ → Option ℕ
@@ -43,6 +47,7 @@ keyword_text keyword.Create = codes "create"
 keyword_text keyword.Read = codes "read"
 keyword_text keyword.Put = codes "put"
 keyword_text keyword.Unfix = codes "unfix"
+keyword_text keyword.Scan = codes "scan"
 keyword_text keyword.Clean = codes "clean"
 keyword_text keyword.Checkpoint = codes "checkpoint"
 
@@ -55,7 +60,7 @@ keywords =
     keyword.Set Page ∷ keyword.Set Instances ∷ keyword.Set Frames ∷ keyword.Set Size ∷ keyword.Set Max
     ∷ keyword.Set OldPct ∷ keyword.Set OldTime ∷ keyword.Set OldMin ∷ keyword.Set Lsn ∷ keyword.Set First
     ∷ keyword.Thread ∷ keyword.Fix ∷ keyword.Create ∷ keyword.Read ∷ keyword.Put ∷ keyword.Unfix
-    ∷ keyword.Clean ∷ keyword.Checkpoint ∷ []
+    ∷ keyword.Scan ∷ keyword.Clean ∷ keyword.Checkpoint ∷ []
 
 abbrev pub keyword_of : List ℕ → Option Keyword
 keyword_of w = found w keywords
@@ -95,6 +100,9 @@ put_of = three (λ p a h. page_of p >>= λ page. number_of (2 ^ 32) a >>= λ at.
 abbrev pub unfix_of : List (List ℕ) → Option Item
 unfix_of = one (λ p. page_of p >>= λ page. Some (Does (Unfix page)))
 
+abbrev pub scan_of : List (List ℕ) → Option Item
+scan_of = two (λ r t. range_of r >>= λ pages. number_of (2 ^ 64) t >>= λ now. Some (Does (Scan pages.0 pages.1 now)))
+
 abbrev pub clean_of : List (List ℕ) → Option Item
 clean_of = one (λ n. number_of (2 ^ 32) n >>= λ bound. Some (Does (Clean bound)))
 
@@ -110,6 +118,7 @@ said_by keyword.Create args = create_of args
 said_by keyword.Read args = read_of args
 said_by keyword.Put args = put_of args
 said_by keyword.Unfix args = unfix_of args
+said_by keyword.Scan args = scan_of args
 said_by keyword.Clean args = clean_of args
 said_by keyword.Checkpoint args = checkpoint_of args
 

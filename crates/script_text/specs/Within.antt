@@ -2,26 +2,26 @@
 use Rattle.std.specs.Prelude.{◌≡◌, ◌+◌, ◌-◌, ◌<◌, ◌≤◌, ◌^◌, false, length, ⊤}
 use Rattle.std.specs.List.{AllByRecursion}
 use Rattle.page_ids.specs.Chunks.{chunks_of}
+use Rattle.page_ids.specs.Content.{IsRange}
 use Rattle.page_ids.specs.Size.{page_bytes}
 use Rattle.page_ids.specs.Fields.{IsFit}
 use Rattle.page_ids.specs.declared.ids.PageSize.{PageSize}
 use Rattle.script_text.specs.Plan.{Plan}
-use Rattle.script_text.specs.Text.{IsPageId, AreBytes}
+use Rattle.page_ids.specs.Typed.{FitsId, AreBytes}
 use Rattle.script_text.specs.Grammar.{all_calls}
 use Rattle.script_text.specs.Faults.{is_faulty}
 use Rattle.script_text.specs.declared.script.TheConstants.{MOST_CALLS, THREADS}
 use Rattle.script_text.specs.declared.script.Command.{Command}
-use Rattle.script_text.specs.declared.script.Command.TheVariants.{Fix, Create, Read, Put, Unfix, Clean, Checkpoint}
+use Rattle.script_text.specs.declared.script.Command.TheVariants.{Fix, Create, Read, Put, Unfix, Scan, Clean, Checkpoint}
 
 -- a command's numbers, each in its range for pages of this size
 abbrev pub IsInRange : PageSize → Command → Type 0
-IsInRange size (Fix p now) = IsPageId p × (now < 2 ^ 64)
-IsInRange size (Create p now) = IsPageId p × (now < 2 ^ 64)
-IsInRange size (Read p at len) = IsPageId p × (1 ≤ len) × (len ≤ 256) × (38 ≤ at) × (at + len ≤ page_bytes size - 8)
-IsInRange size (Put p at bytes) =
-    IsPageId p × (1 ≤ length bytes) × (length bytes ≤ 256) × (38 ≤ at) × (at + length bytes ≤ page_bytes size - 8)
-    × AreBytes bytes
-IsInRange size (Unfix p) = IsPageId p
+IsInRange size (Fix p now) = FitsId p × (now < 2 ^ 64)
+IsInRange size (Create p now) = FitsId p × (now < 2 ^ 64)
+IsInRange size (Read p at len) = FitsId p × (len ≤ 256) × IsRange (page_bytes size) at len
+IsInRange size (Put p at bytes) = FitsId p × (length bytes ≤ 256) × IsRange (page_bytes size) at (length bytes) × AreBytes bytes
+IsInRange size (Unfix p) = FitsId p
+IsInRange size (Scan from last now) = FitsId from × (from.page ≤ last) × (last - from.page < 4096) × (last < 2 ^ 32) × (now < 2 ^ 64)
 IsInRange size (Clean bound) = bound ≤ 16384
 IsInRange size Checkpoint = ⊤
 

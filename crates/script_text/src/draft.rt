@@ -1,8 +1,9 @@
 //! What the lines of a script said so far.
-ghost use Rattle.std.specs.Prelude.{◌≡◌, ◌<◌, map, vec_len, IfOk, OnOk, Some, None, true, if◌then◌else◌};
-ghost use Rattle.page_ids.specs.Size.{is_page_size};
+ghost use Rattle.std.specs.Prelude.{◌≡◌, ◌<◌, ◌^◌, ◌&&◌, nat_le, map, vec_len, IfOk, OnOk, Some, None, true, if◌then◌else◌};
+ghost use Rattle.page_ids.specs.Content.{is_range};
+ghost use Rattle.page_ids.specs.Size.{is_page_size, page_bytes};
 ghost use Rattle.page_ids.specs.Fields.{is_settable};
-ghost use Rattle.script_text.specs.Grammar.{place_of, size_of, with_setting, is_in_body, is_in_range, calls_of, with_command, step, usual, nothing_said};
+ghost use Rattle.script_text.specs.Grammar.{place_of, size_of, with_setting, is_in_range, calls_of, with_command, step, usual, nothing_said};
 ghost use Rattle.script_text.specs.Verdict.{plan_of};
 
 use crate::lines::Item;
@@ -114,12 +115,12 @@ fn with_setting(config: Config, setting: Field, n: u64) -> Config
     }
 }
 
-/// Whether `len` bytes from `at` on are 1 to 256 and lie in the body of a page of this size.
+/// Whether `len` bytes from `at` on are at most 256 and a range of the body of a page of this size.
 fn is_in_body(size: PageSize, at: u32, len: u64) -> bool
-    ensures { result ≡ is_in_body size at len }
+    ensures { result ≡ (nat_le len 256 && is_range (page_bytes size) at len) }
 {
     let end = u64::from(size.bytes()) - 8;
-    1 <= len && len <= 256 && 38 <= at && u64::from(at) + len <= end
+    len <= 256 && 0 < len && 38 <= at && u64::from(at) + len <= end
 }
 
 fn is_in_range(size: PageSize, command: &Command) -> bool
@@ -134,14 +135,16 @@ fn is_in_range(size: PageSize, command: &Command) -> bool
             is_in_body(size, *at, len)
         }
         Command::Unfix { .. } => true,
+        Command::Scan { from, last, .. } => from.page <= *last && *last - from.page < 4096,
         Command::Clean { bound } => *bound <= 16384,
         Command::Checkpoint => true,
     }
 }
 
 /// How many calls the command makes of so many instances.
-fn calls_of(instances: u16, command: &Command) -> u32
-    ensures { result ≡ calls_of instances command.now }
+fn calls_of(instances: u16, command: &Command) -> u64
+    ensures calls { result ≡ calls_of instances command.now }
+    ensures few { result < 2 ^ 36 }
 {
     match command {
         Command::Fix { .. } => 1,
@@ -149,8 +152,9 @@ fn calls_of(instances: u16, command: &Command) -> u32
         Command::Read { .. } => 1,
         Command::Put { .. } => 1,
         Command::Unfix { .. } => 1,
-        Command::Clean { .. } => u32::from(instances),
-        Command::Checkpoint => u32::from(instances),
+        Command::Scan { from, last, .. } => 3 * (u64::from(last.saturating_sub(from.page)) + 1),
+        Command::Clean { .. } => u64::from(instances),
+        Command::Checkpoint => u64::from(instances),
     }
 }
 
@@ -207,8 +211,7 @@ impl Draft {
         ensures { IfOk result (λ good.
             step self.old (Item.Does command) ≡ (if good then Some self.new else None)) }
     {
-        let more = calls_of(self.config.instances, &command);
-        let calls = u64::from(self.calls) + u64::from(more);
+        let calls = u64::from(self.calls) + calls_of(self.config.instances, &command);
         if self.threads.is_empty()
             || !is_in_range(self.config.page, &command)
             || calls > MOST_CALLS

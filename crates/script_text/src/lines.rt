@@ -2,10 +2,10 @@
 ghost use Rattle.std.specs.Prelude.{◌≡◌, ◌==◌, map, IfOk};
 ghost use Rattle.std.specs.List.{slice_split};
 ghost use Rattle.script_text.specs.Text.{is_nothing};
-ghost use Rattle.script_text.specs.Reading.{keyword_of, set_of, thread_of, fix_of, create_of, read_of, put_of, unfix_of, clean_of, checkpoint_of, words_say, line_says};
+ghost use Rattle.script_text.specs.Reading.{keyword_of, set_of, thread_of, fix_of, create_of, read_of, put_of, unfix_of, scan_of, clean_of, checkpoint_of, words_say, line_says};
 
 use crate::script::Command;
-use crate::words::{bytes, page};
+use crate::words::{bytes, page, range};
 use page_ids::Field;
 use page_ids::numerals::{number, number_u32};
 use std::alloc::{AllocError, Global};
@@ -30,6 +30,7 @@ pub enum Keyword {
     Read,
     Put,
     Unfix,
+    Scan,
     Clean,
     Checkpoint,
 }
@@ -70,6 +71,8 @@ fn keyword_of(word: &[u8]) -> Option<Keyword>
         Some(Keyword::Put)
     } else if word == b"unfix".as_slice() {
         Some(Keyword::Unfix)
+    } else if word == b"scan".as_slice() {
+        Some(Keyword::Scan)
     } else if word == b"clean".as_slice() {
         Some(Keyword::Clean)
     } else if word == b"checkpoint".as_slice() {
@@ -169,6 +172,18 @@ fn unfix(args: &[&[u8]]) -> Option<Item>
     Some(Item::Does { command })
 }
 
+fn scan(args: &[&[u8]]) -> Option<Item>
+    ensures { result ≡ scan_of (map (λ w. w.now) args.now) }
+{
+    let [pages, now] = args else {
+        return None;
+    };
+    let (from, last) = range(pages)?;
+    let now = number(u64::MAX, now)?;
+    let command = Command::Scan { from, last, now };
+    Some(Item::Does { command })
+}
+
 fn clean(args: &[&[u8]]) -> Option<Item>
     ensures { result ≡ clean_of (map (λ w. w.now) args.now) }
 {
@@ -208,6 +223,7 @@ fn said(alloc: Global, words: &[&[u8]]) -> Result<Option<Item>, AllocError>
         Keyword::Read => read(args),
         Keyword::Put => put(alloc, args)?,
         Keyword::Unfix => unfix(args),
+        Keyword::Scan => scan(args),
         Keyword::Clean => clean(args),
         Keyword::Checkpoint => checkpoint(args),
     })

@@ -27,6 +27,7 @@ impl fmt::Display for Command {
             Command::Read { page, at, len } => write!(f, "read {page} {at} {len}"),
             Command::Put { page, at, bytes } => write!(f, "put {page} {at} {bytes}"),
             Command::Unfix { page } => write!(f, "unfix {page}"),
+            Command::Scan { from, last, now } => write!(f, "scan {from}-{last} {now}"),
             Command::Clean { bound } => write!(f, "clean {bound}"),
             Command::Checkpoint => write!(f, "checkpoint"),
         }

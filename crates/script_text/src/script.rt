@@ -27,6 +27,9 @@ pub enum Command {
     Put { page: PageId, at: u32, bytes: Bytes },
     /// Gives the newest fix of the page back.
     Unfix { page: PageId },
+    /// Looks at the pages of a space from `from` to the one with the number `last`, at most 4096, in rising order: each is fixed at this moment,
+    /// and where its fix is granted, four bytes at 38 are read and just that fix is given back.
+    Scan { from: PageId, last: u32, now: u64 },
     /// Writes dirty pages, the one with the oldest change first, until so many are written, at most 16384.
     Clean { bound: u32 },
     /// Asks for the LSN of the oldest change that isn't written yet; where each one is, for the log's end.

@@ -1,6 +1,6 @@
 //! The words of a line: page ids and bytes, each in its one spelling.
 ghost use Rattle.std.specs.Prelude.{◌≡◌, ◌<◌, IfOk, IfSome};
-ghost use Rattle.script_text.specs.Reading.{page_of, hex_digit, byte_of, hex_of};
+ghost use Rattle.script_text.specs.Reading.{page_of, range_of, hex_digit, byte_of, hex_of};
 
 use page_ids::numerals::{cut, number_u32};
 use page_ids::{Bytes, PageId};
@@ -14,6 +14,17 @@ pub fn page(word: &[u8]) -> Option<PageId>
     let space = number_u32(space)?;
     let page = number_u32(page)?;
     Some(PageId { space, page })
+}
+
+/// The pages that a word `SPACE:FIRST-LAST` writes: the first, and the number of the last.
+#[tactic(auto, unfolding(crate::specs::Reading::range_of))]
+pub fn range(word: &[u8]) -> Option<(PageId, u32)>
+    ensures { result ≡ range_of word.now }
+{
+    let (first, last) = cut(b'-', word)?;
+    let from = page(first)?;
+    let last = number_u32(last)?;
+    Some((from, last))
 }
 
 /// What a lower-case hexadecimal digit stands for.

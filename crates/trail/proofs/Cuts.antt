@@ -10,8 +10,8 @@ use Rattle.std.proofs.lemmas.Fmt.{decimal_by_steps}
 use Rattle.std.proofs.lemmas.Bool.Decides.{nat_tests}
 use Rattle.std.proofs.lemmas.List.Elements.{All-push, All-append, All-cons, All-nil, recursion_from_All}
 use Rattle.std.proofs.lemmas.List.Splits.{slice_split_none, slice_split_at}
-use Rattle.page_ids.specs.Spelling.{listed}
-use Rattle.trail.proofs.Told.{append_none}
+use Rattle.page_ids.specs.Spelling.{after_commas}
+use Rattle.std.proofs.lemmas.List.{append-nil}
 use Rattle.trail.proofs.Visible.{visible, AreVisible, Lacks, visible_lacks}
 
 -- before and behind the first such byte
@@ -56,7 +56,7 @@ spelled [] = []
 spelled (w ∷ ws) = 32 ∷ w ++ spelled ws
 
 pub words_cut : (w : List ℕ) (ws : List (List ℕ)) → visible w ≡ true → AreVisible ws → slice_split (λ x. x == 32) (w ++ spelled ws) ≡ w ∷ ws
-words_cut w [] v vs = ap (slice_split (λ x. x == 32)) (append_none w) ∙ slice_split_none (λ x. x == 32) w (visible_lacks 32 (lit< tt) w v)
+words_cut w [] v vs = ap (slice_split (λ x. x == 32)) (append-nil w) ∙ slice_split_none (λ x. x == 32) w (visible_lacks 32 (lit< tt) w v)
 words_cut w (x ∷ ws) v vs = slice_split_at (λ x. x == 32) w 32 (x ++ spelled ws) (visible_lacks 32 (lit< tt) w v) refl ∙ ap (λ t. w ∷ t) (words_cut x ws vs.0 vs.1)
 
 -- a line of words has no line's end
@@ -66,7 +66,7 @@ line_lacks w (x ∷ ws) v vs = lacks-append 10 w 32 (x ++ spelled ws) (visible_l
 
 -- items with commas between them
 pub items_cut : {A : Type 0} → (item : A → List ℕ) (IsItem : A → Type 0) → ((x : A) → IsItem x → Lacks 44 (item x)) → (x : A) (xs : List A) → IsItem x → AllByRecursion IsItem xs
-    → slice_split (λ c. c == 44) (item x ++ listed item xs) ≡ item x ∷ map item xs
-items_cut item IsItem lacks x [] h hs = ap (slice_split (λ c. c == 44)) (append_none (item x)) ∙ slice_split_none (λ c. c == 44) (item x) (lacks x h)
+    → slice_split (λ c. c == 44) (item x ++ after_commas item xs) ≡ item x ∷ map item xs
+items_cut item IsItem lacks x [] h hs = ap (slice_split (λ c. c == 44)) (append-nil (item x)) ∙ slice_split_none (λ c. c == 44) (item x) (lacks x h)
 items_cut item IsItem lacks x (y ∷ ys) h hs =
-    slice_split_at (λ c. c == 44) (item x) 44 (item y ++ listed item ys) (lacks x h) refl ∙ ap (λ t. item x ∷ t) (items_cut item IsItem lacks y ys hs.0 hs.1)
+    slice_split_at (λ c. c == 44) (item x) 44 (item y ++ after_commas item ys) (lacks x h) refl ∙ ap (λ t. item x ∷ t) (items_cut item IsItem lacks y ys hs.0 hs.1)

@@ -1,9 +1,6 @@
 pub mod Lines
-pub mod Told
-pub mod Backward
+pub mod Ranked
 pub mod Merged
-pub mod Ordered
-pub mod Taking
 pub mod Numbers
 pub mod Visible
 pub mod Cuts

@@ -1,5 +1,5 @@
 -- What the look-ups of a history come to. These are lemmas about the definitions, which crates above may cite.
-use Rattle.std.proofs.Common.{◌≡◌, ◌<◌, ◌≤◌, ℕ, zero, suc, Bool, true, false, not, cond, List, [], ◌∷◌, ◌++◌, ◌+◌, ◌||◌, ◌⊎◌, Option, None, Some, length, refl, ap, ◌∙◌, sym, subst, eq-eqb, nat_eq, nat_lt, IsTrue, IfSome, IsSomeAnd, arith}
+use Rattle.std.proofs.Common.{◌≡◌, ◌<◌, ◌≤◌, ℕ, zero, suc, Bool, true, false, not, cond, List, [], ◌∷◌, ◌++◌, ◌+◌, ◌||◌, Option, None, Some, length, refl, ap, ◌∙◌, sym, subst, eq-eqb, nat_eq, nat_lt, IsTrue, IfSome, IsSomeAnd, arith}
 use Rattle.std.proofs.lemmas.Bool.Decides.{nat_tests}
 use Rattle.std.specs.Prelude.{Contains, filter, slice_index_or}
 use Rattle.std.specs.List.{AllByRecursion, find, list_any}

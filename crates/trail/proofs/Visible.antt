@@ -7,10 +7,10 @@ use Rattle.std.proofs.lemmas.Fmt.{decimal_by_steps}
 use Rattle.std.proofs.lemmas.Bool.Decides.{nat_tests}
 use Rattle.std.proofs.lemmas.List.Elements.{All-cons, All-nil}
 use Rattle.page_ids.specs.FrameWord.{word_text, flags_text, clock_of, fixes_of, is_resident, is_latched}
-use Rattle.page_ids.specs.Spelling.{page_text, hex, listed, list_text, frame_text}
+use Rattle.page_ids.specs.Spelling.{page_text, hex, after_commas, list_text, frame_text}
 use Rattle.page_ids.specs.declared.frame_word.Word.{Word}
 use Rattle.page_ids.specs.declared.ids.PageId.{PageId}
-use Rattle.trail.specs.Typed.{IsPage, IsWord, AreBytes, ArePages, AreFrames}
+use Rattle.page_ids.specs.Typed.{FitsId, IsWord, AreBytes, ArePages, AreFrames}
 
 -- the bytes behind the blank in ASCII
 abbrev pub visible : List ℕ → Bool
@@ -61,7 +61,7 @@ number_visible n wide = decimal_by_steps (λ k ds. visible ds ≡ true) one more
 pub small_visible : (n : ℕ) → n < 2 ^ 32 → visible (decimal n) ≡ true
 small_visible n small = number_visible n (omega arith)
 
-pub page_visible : (p : PageId) → IsPage p → visible (page_text p) ≡ true
+pub page_visible : (p : PageId) → FitsId p → visible (page_text p) ≡ true
 page_visible p h = visible-append (decimal p.space) (58 ∷ decimal p.page) (small_visible p.space h.0) (small_visible p.page h.1)
 
 glyph_visible : (d : ℕ) (w : List ℕ) → d < 16 → visible w ≡ true → visible (digit_glyph false d ∷ w) ≡ true
@@ -90,18 +90,18 @@ word_visible w h =
 frame_visible : (f : ℕ × Word) → f.0 < 2 ^ 32 → IsWord f.1 → visible (frame_text f) ≡ true
 frame_visible f small h = visible-append (decimal f.0) (61 ∷ word_text f.1) (small_visible f.0 small) (word_visible f.1 h)
 
-frames_behind : (fs : List (ℕ × Word)) → AreFrames fs → visible (listed frame_text fs) ≡ true
+frames_behind : (fs : List (ℕ × Word)) → AreFrames fs → visible (after_commas frame_text fs) ≡ true
 frames_behind [] h = refl
-frames_behind (f ∷ fs) h = visible-append (frame_text f) (listed frame_text fs) (frame_visible f h.0.0 h.0.1) (frames_behind fs h.1)
+frames_behind (f ∷ fs) h = visible-append (frame_text f) (after_commas frame_text fs) (frame_visible f h.0.0 h.0.1) (frames_behind fs h.1)
 
 pub frames_visible : (fs : List (ℕ × Word)) → AreFrames fs → visible (list_text frame_text fs) ≡ true
 frames_visible [] h = refl
-frames_visible (f ∷ fs) h = visible-append (frame_text f) (listed frame_text fs) (frame_visible f h.0.0 h.0.1) (frames_behind fs h.1)
+frames_visible (f ∷ fs) h = visible-append (frame_text f) (after_commas frame_text fs) (frame_visible f h.0.0 h.0.1) (frames_behind fs h.1)
 
-pages_behind : (ps : List PageId) → ArePages ps → visible (listed page_text ps) ≡ true
+pages_behind : (ps : List PageId) → ArePages ps → visible (after_commas page_text ps) ≡ true
 pages_behind [] h = refl
-pages_behind (p ∷ ps) h = visible-append (page_text p) (listed page_text ps) (page_visible p h.0) (pages_behind ps h.1)
+pages_behind (p ∷ ps) h = visible-append (page_text p) (after_commas page_text ps) (page_visible p h.0) (pages_behind ps h.1)
 
 pub pages_visible : (ps : List PageId) → ArePages ps → visible (list_text page_text ps) ≡ true
 pages_visible [] h = refl
-pages_visible (p ∷ ps) h = visible-append (page_text p) (listed page_text ps) (page_visible p h.0) (pages_behind ps h.1)
+pages_visible (p ∷ ps) h = visible-append (page_text p) (after_commas page_text ps) (page_visible p h.0) (pages_behind ps h.1)

@@ -10,11 +10,11 @@ use Rattle.std.proofs.lemmas.Fmt.{decimal_nonempty}
 use Rattle.std.proofs.lemmas.List.{length-append}
 use Rattle.std.proofs.lemmas.Slice.Eq.{bytes_eq-Decides}
 use Rattle.page_ids.specs.FrameWord.{word_text, flags_text, clock_of, fixes_of, is_resident, is_latched}
-use Rattle.page_ids.specs.Spelling.{page_text, hex, listed, list_text, frame_text, ids_text, words_text}
+use Rattle.page_ids.specs.Spelling.{page_text, hex, after_commas, list_text, frame_text, ids_text, words_text}
 use Rattle.page_ids.specs.declared.frame_word.Word.{Word}
 use Rattle.page_ids.specs.declared.ids.PageId.{PageId}
 use Rattle.trail.specs.Spelling.{arrived_text}
-use Rattle.trail.specs.Typed.{IsPage, IsWord, AreBytes, ArePages, AreFrames}
+use Rattle.page_ids.specs.Typed.{FitsId, IsWord, AreBytes, ArePages, AreFrames}
 use Rattle.trail.proofs.Numbers.{number_of, number_read}
 use Rattle.trail.proofs.Visible.{Lacks, word_parts}
 use Rattle.trail.proofs.Cuts.{cut_at, cut_here, decimal_lacks, lacks-append, items_cut}
@@ -36,7 +36,7 @@ wide n h = omega arith
 abbrev pub page_of : List ℕ → Option PageId
 page_of word = cut_at 58 word >>= λ r. number_of (2 ^ 32) r.0 >>= λ space. number_of (2 ^ 32) r.1 >>= λ page. Some (record { space = space; page = page })
 
-pub page_read : (p : PageId) → IsPage p → page_of (page_text p) ≡ Some p
+pub page_read : (p : PageId) → FitsId p → page_of (page_text p) ≡ Some p
 page_read p h =
     let cuts = cut_here 58 (decimal p.space) (decimal p.page) (decimal_lacks 58 p.space (inr (lit< tt)) (wide _ h.0)) in
     rw cuts (rw (read32 p.space h.0) (rw (read32 p.page h.1) refl))
@@ -128,25 +128,25 @@ list_read : {A : Type 0} → (text : A → List ℕ) (item : List ℕ → Option
     → (xs : List A) → AllByRecursion IsItem xs → list_of item (list_text text xs) ≡ Some xs
 list_read text item IsItem reads lacks long [] h = refl
 list_read text item IsItem reads lacks long (x ∷ xs) h =
-    let no : bytes_eq (text x ++ listed text xs) (codes "-") ≡ false = no_dash (text x ++ listed text xs) (omega (arith, long x h.0, length-append (text x) (listed text xs))) in
+    let no : bytes_eq (text x ++ after_commas text xs) (codes "-") ≡ false = no_dash (text x ++ after_commas text xs) (omega (arith, long x h.0, length-append (text x) (after_commas text xs))) in
     rw no (rw (items_cut text IsItem lacks x xs h.0 h.1) (all_read text item IsItem reads (x ∷ xs) h))
 
 -- page ids
 abbrev pub ids_of : List ℕ → Option (List PageId)
 ids_of = list_of page_of
 
-page_lacks : (p : PageId) → IsPage p → Lacks 44 (page_text p)
+page_lacks : (p : PageId) → FitsId p → Lacks 44 (page_text p)
 page_lacks p h = lacks-append 44 (decimal p.space) 58 (decimal p.page) (decimal_lacks 44 p.space (inl (lit< tt)) (wide _ h.0)) refl (decimal_lacks 44 p.page (inl (lit< tt)) (wide _ h.1))
 
-page_long : (p : PageId) → IsPage p → 1 < length (page_text p)
+page_long : (p : PageId) → FitsId p → 1 < length (page_text p)
 page_long p h = omega (arith, decimal_nonempty p.space (wide _ h.0), length-append (decimal p.space) (58 ∷ decimal p.page))
 
-pages : (ps : List PageId) → ArePages ps → AllByRecursion IsPage ps
+pages : (ps : List PageId) → ArePages ps → AllByRecursion FitsId ps
 pages [] h = tt
 pages (p ∷ ps) h = (h.0, pages ps h.1)
 
 pub ids_read : (ps : List PageId) → ArePages ps → ids_of (ids_text ps) ≡ Some ps
-ids_read ps h = list_read page_text page_of IsPage page_read page_lacks page_long ps (pages ps h)
+ids_read ps h = list_read page_text page_of FitsId page_read page_lacks page_long ps (pages ps h)
 
 -- frames and their words
 abbrev pub frame_of : List ℕ → Option (ℕ × Word)

@@ -1,4 +1,4 @@
--- The book of an instance's frames: the chunks, those being withdrawn, the free frames, the withdrawn ones, and the frame in hand.
+-- The book of an instance's frames: the chunks, those being withdrawn, the free frames, the withdrawn ones, and those in the hands of calls.
 -- It is read from the history, the newest entry first.
 use Rattle.std.specs.Prelude.{ℕ, Bool, true, false, not, List, [], ◌∷◌, ◌++◌, ◌==◌, ◌&&◌, ◌-◌, ◌*◌, Option, None, Some, filter, if◌then◌else◌, nat_le}
 use Rattle.std.specs.List.{list_any}
@@ -12,16 +12,11 @@ use Rattle.trail.specs.declared.event.Cause.TheVariants as cause
 use Rattle.trail.specs.declared.event.Kind.{Kind}
 use Rattle.trail.specs.declared.event.Kind.TheVariants as kind
 use Rattle.trail.specs.declared.event.Entry.{Entry}
+use Rattle.trail.specs.declared.event.Hand.{Hand}
 
 -- the chunks from `from` on are being withdrawn, by this call
 pub record Area : Type 0 where
   pub from : ℕ
-  pub caller : ℕ
-  pub number : ℕ
-
--- the frame of a victim that its call has not used yet
-pub record Hand : Type 0 where
-  pub frame : ℕ
   pub caller : ℕ
   pub number : ℕ
 
@@ -30,7 +25,7 @@ pub record Book : Type 0 where
   pub area : Option Area
   pub free : List ℕ
   pub withdrawn : List ℕ
-  pub hand : Option Hand
+  pub hands : List Hand
 
 abbrev pub without : ℕ → List ℕ → List ℕ
 without f [] = []
@@ -40,17 +35,22 @@ abbrev pub front : List ℕ → Option ℕ
 front [] = None
 front (f ∷ fs) = Some f
 
--- the next frame to be taken: that of a victim, or else the front of the free list
-abbrev pub frame_in_turn : Book → Option ℕ
-frame_in_turn b = option_map_or (λ (x : Hand). Some x.frame) b.hand (front b.free)
+-- the newest frame in these hands, or else the front of the free list
+abbrev pub first_in : List Hand → List ℕ → Option ℕ
+first_in [] free = front free
+first_in (x ∷ hands) free = Some x.frame
 
--- whether the frame in hand is this call's
+-- the next frame to be taken, whose hand ever it is in
+abbrev pub frame_in_turn : Book → Option ℕ
+frame_in_turn b = first_in b.hands b.free
+
+-- whether the frame is in the hand of this call
 abbrev pub is_holder : ℕ → ℕ → Hand → Bool
 is_holder c n x = (x.caller == c) && (x.number == n)
 
 -- the frame that a call takes: that of its own victim, or else the front of the free list
 abbrev pub next_frame : Book → ℕ → ℕ → Option ℕ
-next_frame b c n = option_map_or (λ (x : Hand). if is_holder c n x then Some x.frame else front b.free) b.hand (front b.free)
+next_frame b c n = first_in (filter (is_holder c n) b.hands) b.free
 
 -- whether the frame lies in the chunks being withdrawn, with so many frames in a chunk
 abbrev pub is_inside : ℕ → Book → ℕ → Bool
@@ -60,16 +60,17 @@ is_inside per b f = option_map_or (λ (a : Area). nat_le (a.from * per) f) b.are
 abbrev pub is_owner : Book → ℕ → ℕ → Bool
 is_owner b c n = option_map_or (λ (a : Area). (a.caller == c) && (a.number == n)) b.area false
 
+-- a frame leaves the free list, or the hand that it is in
 abbrev pub use_frame : ℕ → Book → Book
-use_frame f b = record b { free = without f b.free; hand = None }
+use_frame f b = record b { free = without f b.free; hands = filter (λ (x : Hand). not (x.frame == f)) b.hands }
 
 -- a frame is given back
 abbrev pub give : ℕ → ℕ → Book → Book
 give per f b = let used = use_frame f b in if is_inside per b f then record used { withdrawn = b.withdrawn ++ f ∷ [] } else record used { free = used.free ++ f ∷ [] }
 
 -- a call that was refused behind its frame gives back the frame that it took, or would have taken
-abbrev pub give_next : ℕ → Book → Book
-give_next per b = option_map_or (λ f. give per f b) (frame_in_turn b) b
+abbrev pub give_next : ℕ → ℕ → ℕ → Book → Book
+give_next per c n b = option_map_or (λ f. give per f b) (next_frame b c n) b
 
 -- whether this refusal may come behind the call's frame
 abbrev pub is_late : Call → Cause → Bool
@@ -91,7 +92,7 @@ book_after per e (kind.Load p f) b = use_frame f b
 book_after per e (kind.Fix p f clock now) b = b
 book_after per e (kind.Create p f start end now) b = use_frame f b
 book_after per e (kind.Put p at bytes start end) b = b
-book_after per e (kind.Evict p f passed) b = if is_owner b e.caller e.number then give per f b else record b { hand = Some (record { frame = f; caller = e.caller; number = e.number }) }
+book_after per e (kind.Evict p f passed) b = if is_owner b e.caller e.number then give per f b else record b { hands = record { frame = f; caller = e.caller; number = e.number } ∷ b.hands }
 book_after per e (kind.Write p lsn upto) b = b
 book_after per e (kind.Move p from to) b = record b { free = without to b.free; withdrawn = b.withdrawn ++ from ∷ [] }
 book_after per e (kind.Withdraw from) b = withdraw (record { from = from; caller = e.caller; number = e.number }) per b
@@ -106,11 +107,11 @@ book_after per e (kind.WatchAt p f) b = b
 book_after per e (kind.Occurred p arrived) b = b
 book_after per e (kind.Unwatch p) b = b
 book_after per e (kind.Dump pct ids) b = b
-book_after per e (kind.Refused asked why) b = if is_late asked why then give_next per b else b
+book_after per e (kind.Refused asked why) b = if is_late asked why then give_next per e.caller e.number b else b
 
 -- at the start all frames are free, rising
 abbrev pub book_at_start : Config → Book
-book_at_start c = record { chunks = chunks_of c; area = None; free = rising 0 (chunks_of c * c.frames); withdrawn = []; hand = None }
+book_at_start c = record { chunks = chunks_of c; area = None; free = rising 0 (chunks_of c * c.frames); withdrawn = []; hands = [] }
 
 abbrev pub book : Config → List Entry → Book
 book c [] = book_at_start c

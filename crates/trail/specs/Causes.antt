@@ -1,7 +1,7 @@
 -- Why calls are refused. The state is that before the event; `mine` are the caller's own events, and all events before it, `past`, tell what spaces have.
 use Rattle.std.specs.Prelude.{ℕ, Bool, true, false, List, [], ◌∷◌, ◌≡◌, ◌≢◌, ◌==◌, ◌&&◌, ◌≤◌, ◌<◌, ◌+◌, ◌*◌, ◌⊎◌, length, Option, None, Some, IfSome, IsSomeAnd, IsTrue, is_none, nat_le, nat_lt, if◌then◌else◌}
 use Rattle.std.specs.List.{AllByRecursion}
-use Rattle.std.specs.Option.{option_or, option_map}
+use Rattle.std.specs.Option.{IfNone, option_and_then, option_or, option_map}
 use Rattle.page_ids.specs.Chunks.{chunks_for}
 use Rattle.page_ids.specs.Faults.{Rose}
 use Rattle.page_ids.specs.FrameWord.{is_latched, is_resident, clock_of}
@@ -31,7 +31,7 @@ use Rattle.trail.specs.Watches.{watch_of, other_watches}
 use Rattle.trail.specs.Words.{Hint, hint_of, IsOfFixed}
 use Rattle.trail.specs.Calls.{made, before_call, open_fixes, newest_fix, granted_call, noted_call}
 use Rattle.trail.specs.Preceding.{is_undo}
-use Rattle.trail.specs.Spaces.{IsInside, IsOutside, sought_page}
+use Rattle.trail.specs.Spaces.{IsNotMissing, IsOutside, named_page, sought_page}
 use Rattle.trail.specs.Needs.{HasPlaces, need_of, others_area}
 use Rattle.trail.specs.Victim.{AreAllFixed}
 
@@ -83,15 +83,19 @@ watch_cause h c p = if is_none (home h p) && (other_watches h c p == MOST_WATCHE
 abbrev pub unwatched_cause : List Entry → ℕ → PageId → Option Cause
 unwatched_cause h c p = if is_none (watch_of h c p) then Some cause.NoWatch else None
 
--- no bytes, more chunks than there may be, or another call is withdrawing chunks
-abbrev pub resize_cause : Config → List Entry → ℕ → ℕ → ℕ → Option Cause
-resize_cause config h c n bytes =
-    if bytes == 0 then Some cause.TooSmall
-    else if nat_lt config.max (chunks_for config bytes) then Some (cause.TooLarge (chunks_for config bytes) config.max)
-    else option_map (λ (a : Area). cause.Withdrawing a.from) (others_area (book config h) c n)
+-- no bytes are asked for
+abbrev pub small_cause : ℕ → Option Cause
+small_cause bytes = if bytes == 0 then Some cause.TooSmall else None
 
--- The first exact cause that holds of a call of the caller, of those that such a call may have, but for want of places and of its page. A cause that
--- isn't in the call's list is never the first one, so no refusal of the call with it is lawful.
+-- more chunks than there may be
+abbrev pub large_cause : Config → ℕ → Option Cause
+large_cause config bytes = if nat_lt config.max (chunks_for config bytes) then Some (cause.TooLarge (chunks_for config bytes) config.max) else None
+
+-- another call is withdrawing chunks
+abbrev pub withdrawing_cause : Config → List Entry → ℕ → ℕ → Option Cause
+withdrawing_cause config h c n = option_map (λ (a : Area). cause.Withdrawing a.from) (others_area (book config h) c n)
+
+-- The first exact cause that holds of a call of the caller, of those that such a call may have, but for want of places and of its page.
 abbrev pub due : Opening → List Entry → List Event → ℕ → ℕ → Call → Option Cause
 due o h mine c n (call.Fix p now) = full_cause mine
 due o h mine c n (call.Create p now) = option_or (full_cause mine) (resident_cause h p)
@@ -105,29 +109,35 @@ due o h mine c n (call.Unwatch p) = unwatched_cause h c p
 due o h mine c n (call.Clean bound) = None
 due o h mine c n call.Check = None
 due o h mine c n (call.Dump pct) = None
-due o h mine c n (call.Resize bytes rounds) = resize_cause o.config h c n bytes
+due o h mine c n (call.Resize bytes rounds) = option_or (small_cause bytes) (option_or (large_cause o.config bytes) (withdrawing_cause o.config h c n))
+
+-- the bytes that a call asks for in all
+abbrev pub bytes_asked : Call → Option ℕ
+bytes_asked (call.Resize bytes rounds) = Some bytes
+bytes_asked _ = None
+
+-- What an exact cause says, as far as the call has what it speaks of: that such a call may have this cause is promised by the calls.
+abbrev pub exact_cause : Opening → List Entry → List Event → ℕ → ℕ → Call → Cause → Option Cause
+exact_cause o h mine c n asked (cause.HoldFull held) = full_cause mine
+exact_cause o h mine c n asked (cause.Resident f) = option_and_then (resident_cause h) (named_page asked)
+exact_cause o h mine c n asked (cause.WatchFull watches) = option_and_then (watch_cause h c) (named_page asked)
+exact_cause o h mine c n asked cause.NoWatch = option_and_then (unwatched_cause h c) (named_page asked)
+exact_cause o h mine c n asked cause.TooSmall = option_and_then small_cause (bytes_asked asked)
+exact_cause o h mine c n asked (cause.TooLarge chunks max) = option_and_then (large_cause o.config) (bytes_asked asked)
+exact_cause o h mine c n asked (cause.Withdrawing from) = withdrawing_cause o.config h c n
+exact_cause o h mine c n asked (cause.NoFrame frames) = option_and_then (λ (hint : Hint). frame_cause o.config hint.frame) (hint_of asked)
+exact_cause o h mine c n asked cause.Unheld = option_and_then (unheld_cause mine) (named_page asked)
+exact_cause o h mine c n asked why = None
+
+-- the exact cause that a refusal tells: the first one of the call's own, and where none of these holds the one that it tells, if that holds
+abbrev pub exact_first : Opening → List Entry → List Event → ℕ → ℕ → Call → Cause → Option Cause
+exact_first o h mine c n asked why = option_or (due o h mine c n asked) (exact_cause o h mine c n asked why)
 
 -- the number that was found differs from the page's
 abbrev pub IsOther : PageId → BadPage → Type 0
 IsOther p (bad.Number found) = found ≢ p.page
 IsOther p (bad.Space found) = found ≢ p.space
 IsOther p (bad.Torn head tail) = head ≢ tail
-
--- the page that a call names
-abbrev pub named_page : Call → Option PageId
-named_page (call.Fix p now) = Some p
-named_page (call.Create p now) = Some p
-named_page (call.Put p at bytes) = Some p
-named_page (call.Read p at len) = Some p
-named_page (call.Unfix p) = Some p
-named_page (call.Guess p f clock) = Some p
-named_page (call.Watch p) = Some p
-named_page (call.Occurred p) = Some p
-named_page (call.Unwatch p) = Some p
-named_page (call.Clean bound) = None
-named_page call.Check = None
-named_page (call.Dump pct) = None
-named_page (call.Resize bytes rounds) = None
 
 -- the bytes of the record that the call would log
 abbrev pub record_bytes : Call → Option ℕ
@@ -191,20 +201,21 @@ pub record IsSpent (o : Opening) (h : List Entry) (mine : List Event) (c n : ℕ
 -- its places were left before the call's first entry, and no refusal told that its page isn't there
 pub record IsReached (o : Opening) (past : List Event) (h : List Entry) (made : List Entry) (c n : ℕ) (asked : Call) : Type 0 where
   pub places : HasPlaces o.first o.config (before_call made h) c n asked
-  pub inside : IfSome (sought_page asked) (IsInside past)
+  pub inside : IfSome (sought_page asked) (IsNotMissing past)
 
--- the first exact cause of the call is this one; or it has none, and one comes that is not exact
-abbrev pub IsFirst : Bool → Opening → List Entry → List Entry → Option Cause → Call → Cause → Type 0
-IsFirst true o h made first asked why = first ≡ Some why
-IsFirst false o h made first asked why = (first ≡ None) × Comes o h made asked why
+-- a cause that is exact is the first one; where the call has none of its own, one comes that is not exact
+abbrev pub IsFirst : Bool → Opening → List Entry → List Event → ℕ → ℕ → Call → Cause → Type 0
+IsFirst true o h mine c n asked why = exact_first o h mine c n asked why ≡ Some why
+IsFirst false o h mine c n asked why = (due o h mine c n asked ≡ None) × Comes o h (made n mine) asked why
 
 -- Places stand before all other causes, and the page's space before the rest. That a caller has no fix is the answer of its worker, before all causes of the pool.
 abbrev pub IsRefused : Opening → List Event → List Entry → List Event → ℕ → ℕ → Call → Cause → Type 0
 IsRefused o past h mine c n asked (cause.PlacesSpent mark need) = IsSpent o (before_undo (made n mine) h) mine c n asked mark need
 IsRefused o past h mine c n asked (cause.NoSuchPage pages) =
-    HasPlaces o.first o.config (before_call (made n mine) h) c n asked × IsSomeAnd (sought_page asked) (λ p. IsOutside past p pages)
-IsRefused o past h mine c n asked cause.Unheld = due o h mine c n asked ≡ Some cause.Unheld
-IsRefused o past h mine c n asked why = IsReached o past h (made n mine) c n asked × IsFirst (is_exact why) o h (made n mine) (due o h mine c n asked) asked why
+    HasPlaces o.first o.config (before_call (made n mine) h) c n asked × IsSomeAnd (named_page asked) (λ p. IsOutside past p pages)
+    × IfNone (sought_page asked) (due o h mine c n asked ≡ None)
+IsRefused o past h mine c n asked cause.Unheld = exact_first o h mine c n asked cause.Unheld ≡ Some cause.Unheld
+IsRefused o past h mine c n asked why = IsReached o past h (made n mine) c n asked × IsFirst (is_exact why) o h mine c n asked why
 
 -- A call that is granted has no exact cause.
 pub record IsGranted (o : Opening) (past : List Event) (h : List Entry) (mine : List Event) (c n : ℕ) (asked : Call) : Type 0 where

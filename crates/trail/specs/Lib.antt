@@ -21,6 +21,5 @@ pub mod Alone
 pub mod Laws
 pub mod Promises
 pub mod Merging
-pub mod Backward
 pub mod Spelling
 pub mod Typed

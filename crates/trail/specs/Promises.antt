@@ -20,7 +20,7 @@ use Rattle.trail.specs.History.{home}
 use Rattle.trail.specs.Dirt.{dirty, pages_of}
 use Rattle.trail.specs.Calls.{made, before_call}
 use Rattle.trail.specs.Legal.{OnValue, written_pages}
-use Rattle.trail.specs.Spaces.{sought_page, page_noted, page_shown, pages_in_cause}
+use Rattle.trail.specs.Spaces.{named_page, page_noted, page_shown, pages_in_cause}
 use Rattle.trail.specs.Causes.{is_exact}
 
 -- every frame was seen with a fix, or a device failed
@@ -92,7 +92,7 @@ pub record IsFairRefusal (noted : Bool) (o : Opening) (h made : List Entry) (ask
 -- What an event tells of a space is so: the page that an answer shows is in it, and a refusal for a page that isn't there names the number of its pages.
 pub record IsTold (pages : ℕ → ℕ) (shown : Option PageId) (refusal : Option Refusing) : Type 0 where
   pub inside : IfSome shown (λ p. p.page < pages p.space)
-  pub told : IfSome refusal (λ r. IfSome (sought_page r.call) (λ p. IfSome (pages_in_cause r.cause) (λ n. n ≡ pages p.space)))
+  pub told : IfSome refusal (λ r. IfSome (named_page r.call) (λ p. IfSome (pages_in_cause r.cause) (λ n. n ≡ pages p.space)))
 
 abbrev pub IsOfSpaces : (ℕ → ℕ) → Kind → Type 0
 IsOfSpaces pages k = IsTold pages (page_shown k) (refusal_in k)

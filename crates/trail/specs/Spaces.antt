@@ -15,6 +15,22 @@ use Rattle.trail.specs.declared.event.Event.TheVariants as event
 use Rattle.trail.specs.Trails.{most}
 use Rattle.trail.specs.Kinds.{Refusing, refusal_of}
 
+-- the page that a call names
+abbrev pub named_page : Call → Option PageId
+named_page (call.Fix p now) = Some p
+named_page (call.Create p now) = Some p
+named_page (call.Put p at bytes) = Some p
+named_page (call.Read p at len) = Some p
+named_page (call.Unfix p) = Some p
+named_page (call.Guess p f clock) = Some p
+named_page (call.Watch p) = Some p
+named_page (call.Occurred p) = Some p
+named_page (call.Unwatch p) = Some p
+named_page (call.Clean bound) = None
+named_page call.Check = None
+named_page (call.Dump pct) = None
+named_page (call.Resize bytes rounds) = None
+
 -- the page that a call asks the disk for
 abbrev pub sought_page : Call → Option PageId
 sought_page (call.Fix p now) = Some p
@@ -56,7 +72,7 @@ pages_in_cause _ = None
 
 -- the number of the space that a refusal tells
 abbrev pub pages_told_by : ℕ → Refusing → Option ℕ → Option ℕ
-pages_told_by s r before = option_map_or (λ (p : PageId). if p.space == s then option_map_or (λ pages. Some pages) (pages_in_cause r.cause) before else before) (sought_page r.call) before
+pages_told_by s r before = option_map_or (λ (p : PageId). if p.space == s then option_map_or (λ pages. Some pages) (pages_in_cause r.cause) before else before) (named_page r.call) before
 
 -- the number of pages that the newest such refusal told of the space
 abbrev pub told_pages : List Event → ℕ → Option ℕ
@@ -64,8 +80,8 @@ told_pages [] s = None
 told_pages (e ∷ past) s = option_map_or (λ r. pages_told_by s r (told_pages past s)) (refusal_of e) (told_pages past s)
 
 -- no refusal told so few pages that this one isn't there
-abbrev pub IsInside : List Event → PageId → Type 0
-IsInside past p = IfSome (told_pages past p.space) (λ pages. p.page < pages)
+abbrev pub IsNotMissing : List Event → PageId → Type 0
+IsNotMissing past p = IfSome (told_pages past p.space) (λ pages. p.page < pages)
 
 -- This page isn't among so many; no refusal told another number of its space, and no answer showed a page that isn't among so many.
 pub record IsOutside (past : List Event) (p : PageId) (pages : ℕ) : Type 0 where

@@ -1,5 +1,5 @@
 -- Trails: their events and places, and with what an instance is opened. In look-ups the newest event, entry or receipt stands first.
-use Rattle.std.specs.Prelude.{ℕ, List, [], ◌∷◌, ◌≡◌, ◌==◌, ◌+◌, ◌≤◌, Option, nat_le, nat_lt, if◌then◌else◌}
+use Rattle.std.specs.Prelude.{ℕ, List, [], ◌∷◌, ◌≡◌, ◌==◌, ◌+◌, Option, nat_le, nat_lt, if◌then◌else◌}
 use Rattle.page_ids.specs.Content.{Content}
 use Rattle.page_ids.specs.declared.ids.PageId.{PageId}
 use Rattle.page_ids.specs.declared.config.Config.{Config}
@@ -67,8 +67,3 @@ before n (e ∷ h) = if nat_lt e.place n then e ∷ h else before n h
 abbrev pub AreNumbered : ℕ → List Entry → Type 0
 AreNumbered first [] = Unit {0}
 AreNumbered first (e ∷ h) = (e.place ≡ mark first h + 1) × AreNumbered first h
-
--- the places of receipts fall from this one
-abbrev pub AreWithin : ℕ → List Receipt → Type 0
-AreWithin n [] = Unit {0}
-AreWithin n (r ∷ rs) = (r.place ≤ n) × AreWithin r.place rs

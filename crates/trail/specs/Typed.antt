@@ -1,7 +1,6 @@
--- Numbers that fit the types of their fields.
+-- Trails whose numbers fit the types of their fields.
 use Rattle.std.specs.Prelude.{ℕ, List, [], ◌∷◌, ◌≡◌, ◌+◌, ◌<◌, ◌^◌, length}
-use Rattle.page_ids.specs.declared.ids.PageId.{PageId}
-use Rattle.page_ids.specs.declared.frame_word.Word.{Word}
+use Rattle.page_ids.specs.Typed.{IsU32, IsU64, FitsId, IsWord, AreBytes, ArePages, AreFrames}
 use Rattle.page_ids.specs.declared.layout.BadPage.{BadPage}
 use Rattle.page_ids.specs.declared.layout.BadPage.TheVariants as bad
 use Rattle.trail.specs.declared.event.Call.{Call}
@@ -16,49 +15,21 @@ use Rattle.trail.specs.declared.event.Event.{Event}
 use Rattle.trail.specs.declared.event.Event.TheVariants as event
 use Rattle.trail.specs.Trails.{Events}
 
-abbrev pub IsByte : ℕ → Type 0
-IsByte n = n < 2 ^ 8
-
-abbrev pub IsU32 : ℕ → Type 0
-IsU32 n = n < 2 ^ 32
-
-abbrev pub IsU64 : ℕ → Type 0
-IsU64 n = n < 2 ^ 64
-
-abbrev pub IsPage : PageId → Type 0
-IsPage p = IsU32 p.space × IsU32 p.page
-
-abbrev pub IsWord : Word → Type 0
-IsWord w = IsU64 w.bits
-
--- lists of bytes, of pages, and of frames with their words
-abbrev pub AreBytes : List ℕ → Type 0
-AreBytes [] = Unit {0}
-AreBytes (b ∷ bs) = IsByte b × AreBytes bs
-
-abbrev pub ArePages : List PageId → Type 0
-ArePages [] = Unit {0}
-ArePages (p ∷ ps) = IsPage p × ArePages ps
-
-abbrev pub AreFrames : List (ℕ × Word) → Type 0
-AreFrames [] = Unit {0}
-AreFrames (f ∷ fs) = (IsU32 f.0 × IsWord f.1) × AreFrames fs
-
 abbrev pub BadFits : BadPage → Type 0
 BadFits (bad.Number found) = IsU32 found
 BadFits (bad.Space found) = IsU32 found
 BadFits (bad.Torn head tail) = IsU32 head × IsU32 tail
 
 abbrev pub CallFits : Call → Type 0
-CallFits (call.Fix p now) = IsPage p × IsU64 now
-CallFits (call.Create p now) = IsPage p × IsU64 now
-CallFits (call.Put p at bytes) = IsPage p × IsU32 at × AreBytes bytes
-CallFits (call.Read p at len) = IsPage p × IsU32 at × IsU32 len
-CallFits (call.Unfix p) = IsPage p
-CallFits (call.Guess p frame clock) = IsPage p × IsU32 frame × IsU64 clock
-CallFits (call.Watch p) = IsPage p
-CallFits (call.Occurred p) = IsPage p
-CallFits (call.Unwatch p) = IsPage p
+CallFits (call.Fix p now) = FitsId p × IsU64 now
+CallFits (call.Create p now) = FitsId p × IsU64 now
+CallFits (call.Put p at bytes) = FitsId p × IsU32 at × AreBytes bytes
+CallFits (call.Read p at len) = FitsId p × IsU32 at × IsU32 len
+CallFits (call.Unfix p) = FitsId p
+CallFits (call.Guess p frame clock) = FitsId p × IsU32 frame × IsU64 clock
+CallFits (call.Watch p) = FitsId p
+CallFits (call.Occurred p) = FitsId p
+CallFits (call.Unwatch p) = FitsId p
 CallFits (call.Clean bound) = IsU32 bound
 CallFits call.Check = Unit {0}
 CallFits (call.Dump pct) = IsU32 pct
@@ -82,19 +53,19 @@ CauseFits (cause.Withdrawing from) = IsU32 from
 CauseFits (cause.Undone seen) = AreFrames seen
 CauseFits (cause.NoFrame frames) = IsU32 frames
 CauseFits (cause.Stale found) = IsWord found
-CauseFits (cause.OtherPage found) = IsPage found
+CauseFits (cause.OtherPage found) = FitsId found
 CauseFits (cause.Latched found) = IsWord found
 CauseFits (cause.Busy found) = IsWord found
 CauseFits cause.Unheld = Unit {0}
 
 abbrev pub KindFits : Kind → Type 0
-KindFits (kind.Load p frame) = IsPage p × IsU32 frame
-KindFits (kind.Fix p frame clock now) = IsPage p × IsU32 frame × IsU64 clock × IsU64 now
-KindFits (kind.Create p frame start end now) = IsPage p × IsU32 frame × IsU64 start × IsU64 end × IsU64 now
-KindFits (kind.Put p at bytes start end) = IsPage p × IsU32 at × AreBytes bytes × IsU64 start × IsU64 end
-KindFits (kind.Evict p frame passed) = IsPage p × IsU32 frame × AreFrames passed
-KindFits (kind.Write p lsn upto) = IsPage p × IsU64 lsn × IsU64 upto
-KindFits (kind.Move p from to) = IsPage p × IsU32 from × IsU32 to
+KindFits (kind.Load p frame) = FitsId p × IsU32 frame
+KindFits (kind.Fix p frame clock now) = FitsId p × IsU32 frame × IsU64 clock × IsU64 now
+KindFits (kind.Create p frame start end now) = FitsId p × IsU32 frame × IsU64 start × IsU64 end × IsU64 now
+KindFits (kind.Put p at bytes start end) = FitsId p × IsU32 at × AreBytes bytes × IsU64 start × IsU64 end
+KindFits (kind.Evict p frame passed) = FitsId p × IsU32 frame × AreFrames passed
+KindFits (kind.Write p lsn upto) = FitsId p × IsU64 lsn × IsU64 upto
+KindFits (kind.Move p from to) = FitsId p × IsU32 from × IsU32 to
 KindFits (kind.Withdraw from) = IsU32 from
 KindFits (kind.Undo from) = IsU32 from
 KindFits (kind.Shrink chunks) = IsU32 chunks
@@ -102,17 +73,17 @@ KindFits (kind.Grow chunks) = IsU32 chunks
 KindFits (kind.Resize bytes chunks) = IsU64 bytes × IsU32 chunks
 KindFits (kind.Clean written skipped) = IsU32 written × AreFrames skipped
 KindFits (kind.Check lsn) = IsU64 lsn
-KindFits (kind.WatchSet p) = IsPage p
-KindFits (kind.WatchAt p frame) = IsPage p × IsU32 frame
-KindFits (kind.Occurred p arrived) = IsPage p
-KindFits (kind.Unwatch p) = IsPage p
+KindFits (kind.WatchSet p) = FitsId p
+KindFits (kind.WatchAt p frame) = FitsId p × IsU32 frame
+KindFits (kind.Occurred p arrived) = FitsId p
+KindFits (kind.Unwatch p) = FitsId p
 KindFits (kind.Dump pct ids) = IsU32 pct × ArePages ids
 KindFits (kind.Refused c why) = CallFits c × CauseFits why
 
 abbrev pub NoteFits : Note → Type 0
-NoteFits (note.Granted p frame clock) = IsPage p × IsU32 frame × IsU64 clock
-NoteFits (note.Copied p at bytes clock) = IsPage p × IsU32 at × AreBytes bytes × IsU64 clock
-NoteFits (note.Unfixed p frame fix) = IsPage p × IsU32 frame × IsU32 fix
+NoteFits (note.Granted p frame clock) = FitsId p × IsU32 frame × IsU64 clock
+NoteFits (note.Copied p at bytes clock) = FitsId p × IsU32 at × AreBytes bytes × IsU64 clock
+NoteFits (note.Unfixed p frame fix) = FitsId p × IsU32 frame × IsU32 fix
 NoteFits (note.Refused c why) = CallFits c × CauseFits why
 
 abbrev pub EventFits : Event → Type 0

@@ -292,6 +292,14 @@ pub struct Held {
     pub number: u32,
 }
 
+/// A frame in hand: a victim left it, and the call that evicted the victim has not used it yet.
+#[derive(Clone, Copy, Debug, PartialEq, Eq)]
+pub struct Hand {
+    pub frame: u32,
+    pub caller: u32,
+    pub number: u32,
+}
+
 /// A page that was changed since it was last written: the start LSN of the first such change, and the end LSN of the last
 /// (InnoDB's `oldest_modification` and `newest_modification`).
 #[derive(Clone, Copy, Debug, PartialEq, Eq)]

@@ -10,9 +10,9 @@ pub mod laws;
 pub mod merging;
 pub mod spelling;
 
-pub use event::{Call, Cause, Dirty, Entry, Event, Held, Kind, Note, Receipt, Trail};
+pub use event::{Call, Cause, Dirty, Entry, Event, Hand, Held, Kind, Note, Receipt, Trail};
 pub use laws::{
     a_clean_history_is_durable, clean_pages_are_saved, dirty_pages_are_apart, dirty_pages_rise,
 };
-pub use merging::{merge, one_account_merges};
+pub use merging::{merge, one_trail_is_merged};
 pub use spelling::{text, text_tells_the_trail};

@@ -1,101 +1,82 @@
 //! Puts receipts behind the entries of their places.
-ghost use Rattle.std.specs.Prelude.{ℕ, List, [], ◌∷◌, ◌++◌, ◌≡◌, ◌≤◌, ◌+◌, reverse, vec_len, vec_capacity, MatchOption};
-ghost use Rattle.trail.specs.Trails.{mark, AreNumbered, AreWithin, entries, receipts};
-ghost use Rattle.trail.specs.Merging.{lists, receipts_in, told, merged, together, AllWithin, AreByCaller, AreInOrder, IsPlaced};
-ghost use Rattle.trail.specs.Backward.{here, after, taken, rests, turned};
+ghost use Rattle.std.specs.Prelude.{ℕ, List, ◌++◌, ◌≡◌, ◌≤◌, ◌+◌, reverse, vec_len, vec_capacity, [], ◌∷◌};
+ghost use Rattle.std.specs.List.Sorted.{IsPermutation};
+ghost use Rattle.trail.specs.Trails.{entries, receipts, AreNumbered};
+ghost use Rattle.trail.specs.Merging.{receipts_in, entries_told, told, together, rank, IsMerged, HavePlaces, HasOneEach, AreInOrder, IsPlaced};
+ghost use Rattle.trail.specs.declared.event.Entry.{Entry};
 ghost use Rattle.trail.specs.declared.event.Event.{Event};
+ghost use Rattle.trail.specs.declared.event.Receipt.{Receipt};
 
 use crate::event::{Entry, Event, Receipt, Trail};
 
-/// Takes the last receipt, where it is of this place.
-fn pop_at(place: u64, account: &mut Vec<Receipt>) -> Option<Receipt>
-    ensures { MatchOption result
-        ((account.new.items ≡ account.old.items) × (here place (reverse account.old.items) ≡ []))
-        (λ r. (account.old.items ≡ account.new.items ++ r ∷ []) × (r.place ≡ place)) }
+/// Where an event stands in a trail: its place, an entry before receipts, and these by caller, then number.
+fn rank(event: &Event) -> (u64, u8, u32, u32)
+    ensures { result ≡ rank event.now }
 {
-    let count = account.len();
-    if count == 0 {
-        return None;
+    match event {
+        Event::Entry(entry) => (entry.place, 0, 0, 0),
+        Event::Receipt(receipt) => (receipt.place, 1, receipt.caller, receipt.number),
     }
-    if account[count - 1].place != place {
-        return None;
-    }
-    account.pop()
 }
 
-/// Moves the last receipts of an account, as far as they are of this place.
-fn take_receipts(place: u64, account: &mut Vec<Receipt>, room: &mut Vec<Event>)
-    requires room { vec_len room.old + vec_len account.old ≤ vec_capacity room.old }
-    ensures taken { room.new.items ≡ room.old.items ++ told (here place (reverse account.old.items)) }
-    ensures left { reverse account.new.items ≡ after place (reverse account.old.items) }
-    ensures count { vec_len room.new + vec_len account.new ≡ vec_len room.old + vec_len account.old }
+/// Moves the entries.
+fn take_entries(mut history: Vec<Entry>, room: &mut Vec<Event>)
+    requires room { vec_len room.old + vec_len history ≤ vec_capacity room.old }
+    ensures kept { IsPermutation (room.old.items ++ entries_told history.items) room.new.items }
+    ensures count { vec_len room.new ≡ vec_len room.old + vec_len history }
     ensures room { vec_capacity room.old ≤ vec_capacity room.new }
 {
-    while let Some(receipt) = pop_at(place, account) {
+    while let Some(entry) = history.pop() {
+        room.push_reserved(Event::Entry(entry));
+    }
+}
+
+/// Moves the receipts of an account.
+fn take_receipts(mut account: Vec<Receipt>, room: &mut Vec<Event>)
+    requires room { vec_len room.old + vec_len account ≤ vec_capacity room.old }
+    ensures kept { IsPermutation (room.old.items ++ told account.items) room.new.items }
+    ensures count { vec_len room.new ≡ vec_len room.old + vec_len account }
+    ensures room { vec_capacity room.old ≤ vec_capacity room.new }
+{
+    while let Some(receipt) = account.pop() {
         room.push_reserved(Event::Receipt(receipt));
     }
 }
 
-/// Moves the last receipts of each account, as far as they are of this place, the last account's first.
-fn take_place(place: u64, accounts: &mut Vec<Vec<Receipt>>, room: &mut Vec<Event>)
-    requires room { vec_len room.old + receipts_in accounts.old.items ≤ vec_capacity room.old }
-    ensures taken { room.new.items ≡ room.old.items ++ taken place (turned accounts.old.items) }
-    ensures left { turned accounts.new.items ≡ rests place (turned accounts.old.items) }
-    ensures count { vec_len room.new + receipts_in accounts.new.items
-        ≡ vec_len room.old + receipts_in accounts.old.items }
-    ensures room { vec_capacity room.old ≤ vec_capacity room.new }
-{
-    let mut at = accounts.len();
-    while at > 0 {
-        at -= 1;
-        let account = &mut accounts[at];
-        take_receipts(place, account, room);
-    }
-}
-
-/// The trail of a history and of its passes' accounts, in each of which the places rise.
+/// The trail of a history and of its passes' accounts.
 ///
-/// Its entries are the history. Each receipt comes behind the entry of its place, and before all entries where its place is `first`;
-/// receipts of one place come account by account, so by caller and then number where the accounts come so. Takes no memory: `room` was
-/// reserved for all of them.
+/// Its events are those entries and receipts. Each receipt comes behind the entry of its place, and before all entries where its place
+/// is `first`; receipts of one place come by caller, then number. Takes no memory: `room` was reserved for all of them.
 pub fn merge(
     first: u64,
-    mut history: Vec<Entry>,
+    history: Vec<Entry>,
     mut accounts: Vec<Vec<Receipt>>,
     mut room: Vec<Event>,
 ) -> Trail
     requires empty { room.items ≡ [] }
     requires room { vec_len history + receipts_in accounts.items ≤ vec_capacity room }
     ensures first { result.first ≡ first }
-    ensures events { AreNumbered first (reverse history.items)
-        → AllWithin (mark first (reverse history.items)) (lists accounts.items)
-        → result.events ≡ merged first history.items (lists accounts.items) }
+    ensures merged { IsMerged history.items (together accounts.items) result.events }
     ensures entries { AreNumbered first (reverse history.items)
-        → AllWithin (mark first (reverse history.items)) (lists accounts.items)
         → entries (reverse result.events) ≡ reverse history.items }
-    ensures placed { AreNumbered first (reverse history.items)
-        → AllWithin (mark first (reverse history.items)) (lists accounts.items)
+    ensures placed { HavePlaces first (reverse history.items) (together accounts.items)
         → IsPlaced first (reverse result.events) }
-    ensures ordered { AreNumbered first (reverse history.items)
-        → AllWithin (mark first (reverse history.items)) (lists accounts.items)
-        → AreByCaller (together (lists accounts.items)) → AreInOrder (reverse result.events) }
+    ensures ordered { HavePlaces first (reverse history.items) (together accounts.items)
+        → HasOneEach (together accounts.items) → AreInOrder (reverse result.events) }
 {
-    while let Some(entry) = history.pop() {
-        take_place(entry.place, &mut accounts, &mut room);
-        room.push_reserved(Event::Entry(entry));
+    take_entries(history, &mut room);
+    while let Some(account) = accounts.pop() {
+        take_receipts(account, &mut room);
     }
-    take_place(first, &mut accounts, &mut room);
-    room.reverse();
+    room.sort_unstable_by_key(|event| rank(event));
     Trail::of(first, room)
 }
 
-/// One pass alone: its events are the merged trail of its entries and receipts, which meet the premises of [`merge`].
+/// Events that stand in their places and in order, as those of a lawful trail do, are the one trail of their entries and receipts.
 ///
 /// A law; `past` has the newest event first.
-pub fn one_account_merges()
-    ensures numbered { (first : ℕ) (past : List Event) → IsPlaced first past → AreNumbered first (entries past) }
-    ensures within { (first : ℕ) (past : List Event) → IsPlaced first past
-        → AreWithin (mark first (entries past)) (receipts past) }
-    ensures merged { (first : ℕ) (past : List Event) → IsPlaced first past
-        → merged first (reverse (entries past)) (reverse (receipts past) ∷ []) ≡ reverse past }
+pub fn one_trail_is_merged()
+    ensures only { (first : ℕ) (past : List Event) (es : List Entry) (rs : List Receipt) (events : List Event)
+        → IsPlaced first past → AreInOrder past → entries past ≡ reverse es → receipts past ≡ reverse rs
+        → IsMerged es rs events → events ≡ reverse past }
 {}

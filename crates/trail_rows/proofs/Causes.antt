@@ -19,6 +19,18 @@ no_page_in_another = search computing
 pub no_page_below : Breaks four [] (entry 1 1 1 (refused_fix 63 (cause.NoSuchPage 64)))
 no_page_below = record { good = search computing; bad = fails (λ h. h.causes.1.behind) (λ law. grind arith) }
 
+-- any call that names a page may tell it
+pub no_page_of_guess : Good four (receipt 0 1 1 (denied (call.Guess (page 64) 0 1) (cause.NoSuchPage 64)) ∷ entry 1 1 2 (refused_fix 70 (cause.NoSuchPage 64)) ∷ [])
+no_page_of_guess = search computing
+
+-- and its number is the space's for all behind it
+pub no_page_of_guess_twice : Breaks four (receipt 0 1 1 (denied (call.Guess (page 64) 0 1) (cause.NoSuchPage 64)) ∷ []) (entry 1 1 2 (refused_fix 70 (cause.NoSuchPage 65)))
+no_page_of_guess_twice = record { good = search computing; bad = fails (λ h. h.causes.1.same) (λ law. grind arith) }
+
+-- but behind its own causes
+pub no_page_unheld : Breaks four [] (entry 1 1 1 (refused (call.Put (page 64) 38 (1 ∷ [])) (cause.NoSuchPage 64)))
+no_page_unheld = record { good = search computing; bad = fails (λ h. h.causes.2) (λ law. grind arith) }
+
 -- two numbers are told of one space
 pub no_page_twice : Breaks four (entry 1 1 1 (refused_fix 64 (cause.NoSuchPage 64)) ∷ []) (entry 2 1 2 (refused (call.Watch (page 70)) (cause.NoSuchPage 65)))
 no_page_twice = record { good = search computing; bad = fails (λ h. h.causes.1.same) (λ law. grind arith) }
@@ -67,6 +79,18 @@ resident = search computing
 -- that is told with another frame
 pub resident_elsewhere : Breaks four fixed (entry 3 1 2 (refused (call.Create (page 0) 1) (cause.Resident 1)))
 resident_elsewhere = record { good = search computing; bad = fails (λ h. h.causes.1) (λ law. grind arith) }
+
+-- A fix of a page that is there isn't refused for that, but this is a promise of the calls, and no law: the law is that the page is there,
+pub resident_fix : Good four (fixed ++ entry 3 1 2 (refused_fix 0 (cause.Resident 0)) ∷ [])
+resident_fix = search computing
+
+-- in this frame,
+pub resident_fix_elsewhere : Breaks four fixed (entry 3 1 2 (refused_fix 1 (cause.Resident 0)))
+resident_fix_elsewhere = record { good = search computing; bad = fails (λ h. h.causes.1) (λ law. grind arith) }
+
+-- and that the call has no cause of its own
+pub resident_fix_full : Breaks four full (entry 3 1 65 (refused_fix 0 (cause.Resident 0)))
+resident_fix_full = record { good = search computing; bad = fails (λ h. h.causes.1) (λ law. grind arith) }
 
 -- another cause is told in its place
 pub resident_hidden : Breaks four fixed (entry 3 1 2 (refused (call.Create (page 0) 1) (cause.RedoFault 0 1)))
@@ -143,6 +167,13 @@ watches_over_full = record { good = search computing; bad = fails (λ h. h.cause
 -- a caller has no watch for the page
 pub no_watch : Good four (entry 1 1 1 (refused (call.Unwatch (page 0)) cause.NoWatch) ∷ entry 2 1 2 (refused (call.Occurred (page 0)) cause.NoWatch) ∷ [])
 no_watch = search computing
+
+-- so of any call that names the page; one that names none can't be refused for this
+pub no_watch_of_fix : Good four (entry 1 1 1 (refused_fix 0 cause.NoWatch) ∷ entry 2 1 2 (refused (call.Create (page 0) 1) cause.Unheld) ∷ [])
+no_watch_of_fix = search computing
+
+pub no_watch_of_check : Breaks four [] (entry 1 1 1 (refused call.Check cause.NoWatch))
+no_watch_of_check = record { good = search computing; bad = fails (λ h. h.causes.1) (λ law. grind arith) }
 
 -- it has one
 pub no_watch_but_one : Breaks four (entry 1 1 1 (kind.WatchSet (page 0)) ∷ []) (entry 2 1 2 (refused (call.Occurred (page 0)) cause.NoWatch))

@@ -44,6 +44,21 @@ pub other_hand : Breaks single
     (entry 4 2 1 (load 1 0))
 other_hand = record { good = search computing; bad = fails (λ h. h.legal.kind.next) (λ law. grind arith) }
 
+-- It stays in that call's hand where another call is refused behind its frame, and so isn't free.
+pub other_hand_kept : Breaks single
+    (entry 1 1 1 (load 0 0) ∷ entry 2 1 1 (fix 0 0 1 1) ∷ receipt 2 1 2 (unfixed 0 0 1) ∷ entry 3 1 3 (evict 0 0 [])
+    ∷ entry 4 2 1 (refused_fix 7 (cause.BadPage (bad.Number 8))) ∷ [])
+    (entry 5 2 2 (load 1 0))
+other_hand_kept = record { good = search computing; bad = fails (λ h. h.legal.kind.next) (λ law. grind arith) }
+
+-- while the frames that come later are taken and given back by others
+pub hand_among_free : Good (opened 0 1 4096 2)
+    (entry 1 1 1 (load 0 0) ∷ entry 2 1 1 (fix 0 0 1 1) ∷ receipt 2 1 2 (unfixed 0 0 1) ∷ entry 3 1 3 (evict 0 0 [])
+    ∷ entry 4 2 1 (kind.Grow 2) ∷ entry 5 2 1 (kind.Resize 8192 2)
+    ∷ entry 6 2 2 (refused_fix 7 (cause.BadPage (bad.Number 8))) ∷ entry 7 2 3 (load 1 1) ∷ entry 8 2 3 (fix 1 1 7 1)
+    ∷ [])
+hand_among_free = search computing
+
 -- a page leaves while a frame is free
 pub evict_with_free : Breaks four
     (entry 1 1 1 (load 0 0) ∷ entry 2 1 1 (fix 0 0 1 1) ∷ receipt 2 1 2 (unfixed 0 0 1) ∷ [])

@@ -6,7 +6,7 @@ use Rattle.trail.specs.declared.event.Cause.TheVariants as cause
 use Rattle.trail.specs.declared.event.Kind.TheVariants as kind
 use Rattle.trail.specs.declared.event.Event.{Event}
 use Rattle.trail.specs.Trails.{Opening}
-use Rattle.trail_rows.proofs.Shared.{page, opened, entry, receipt, load, fix, create, put, write, refused, refused_fix, denied, computing, fails, Good, Breaks, Whole}
+use Rattle.trail_rows.proofs.Shared.{page, opened, entry, receipt, load, fix, create, put, write, refused, refused_fix, denied, computing, fails, Good, Breaks, Whole, Unfinished}
 
 -- one chunk of four frames, so many places before the limit
 abbrev left : ℕ → Opening
@@ -144,13 +144,14 @@ pub later_round_of_target : Breaks (triples_left 9)
     (entry (LIMIT - 6) 1 1 (refused (call.Resize 16384 2) (cause.PlacesSpent (LIMIT - 8) 9)))
 later_round_of_target = record { good = search computing; bad = fails (λ h. h.causes.need_is) (λ law. grind arith) }
 
--- a later round may be refused by a receipt too
-pub later_round_noted : Good (pairs_left 9)
+-- By a receipt it is refused lawfully where it comes, since which refusals are receipts is promised alone; but no whole trail has it so, because what
+-- follows the undo in the history isn't its call's refusal.
+pub later_round_noted : Unfinished (pairs_left 9)
     (entry (LIMIT - 8) 1 1 (kind.Withdraw 1)
     ∷ entry (LIMIT - 7) 1 1 (kind.Undo 1)
     ∷ receipt (LIMIT - 7) 1 1 (denied (call.Resize 8192 2) (cause.PlacesSpent (LIMIT - 8) 9))
     ∷ [])
-later_round_noted = search computing
+later_round_noted = record { good = search computing; bad = fails (λ h. h.followed) (λ law. grind arith) }
 
 -- a first round is refused by an entry
 pub first_round_as_entry : Breaks (pairs_left 8) [] (entry (LIMIT - 7) 1 1 (refused (call.Resize 8192 1) (cause.PlacesSpent (LIMIT - 8) 9)))

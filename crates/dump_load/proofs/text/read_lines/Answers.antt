@@ -1,7 +1,8 @@
 use Rattle.std.proofs.Common.{◌∙◌, ◌++◌, ◌<◌, ◌∷◌, [], inr, length, sym, ap, subst, arith}
 use Rattle.std.proofs.lemmas.Option.{none-some}
 use Rattle.std.proofs.lemmas.List.{length-append}
-use Rattle.dump_load.specs.Text.{AreIds, dump_text, ended}
+use Rattle.page_ids.specs.Typed.{ArePages}
+use Rattle.dump_load.specs.Text.{dump_text, ended}
 use Rattle.dump_load.specs.Reading.{id_of}
 use Rattle.dump_load.proofs.Lines.{ended_some, line_read, line_is, text_push, typed_push}
 use Rattle.dump_load.proofs.text.read_lines.Goals as goal
@@ -47,7 +48,7 @@ loop-rest-preserved c =
     let read = line_is c.next_line.result.0.now id (sym c.id.ensures ∙ c.in-Some.is) in
     let grown = c.in-Ok.ensures.items in
     record {
-      typed = subst (λ xs. AreIds xs) (sym grown) (typed_push ids id k.typed read.1);
+      typed = subst (λ xs. ArePages xs) (sym grown) (typed_push ids id k.typed read.1);
       text = k.text ∙ ap (λ xs. dump_text ids ++ xs) (c.next_line.ensures.lines ∙ ap (λ xs. xs ++ 10 ∷ behind) read.0)
           ∙ text_push ids id behind ∙ ap (λ xs. dump_text xs ++ behind) (sym grown);
       few = omega (arith, ap length grown, length-append ids (id ∷ []), c.len.ensures, c.loop-rest.ids.ok.0, c.if-number-gt-MOST_IDS.false);

@@ -1,48 +1,24 @@
-use Rattle.std.proofs.Common.{◌≡◌, ◌∙◌, length, Some, slice_get, refl, ap, arith}
-use Rattle.std.proofs.lemmas.Option.{slice_get_read}
-use Rattle.page_hash.specs.Cells.{cell_of}
-use Rattle.page_hash.proofs.Filed.{filed_moved, present, absent}
+use Rattle.std.proofs.Common.{◌∙◌}
+use Rattle.page_hash.proofs.Filed.{read_of, filed_moved, present, absent}
 use Rattle.page_hash.proofs.cells.refile.Goals as goal
 
 pub replace-requires-clause-present : goal.replace-requires-clause-present
 replace-requires-clause-present c =
-    let f = c.requires.filed in
-    let cells = c.args.cells.now.items in
-    let at = c.cell_of-at.result in
-    let all = c.len.ensures ∙ c.args.cells.now.ok.0 in
-    let own : at ≡ cell_of (length cells) c.args.page = c.cell_of-at.ensures.cell ∙ ap (λ n. cell_of n c.args.page) all in
-    let there : slice_get cells at ≡ Some c.index_mut-cell.result.now =
-    slice_get_read cells (length cells) at c.index_mut-cell.result.now refl (omega (arith, c.cell_of-at.ensures.inside, all)) c.index_mut-cell.ensures.value in
-    present c.args.nodes.now cells f.0 at c.args.old c.args.page c.index_mut-cell.result.now own there f.2 f.1
+    let read = read_of c.args.cells.now.items c.args.page _ _ _ (c.len.ensures ∙ c.args.cells.now.ok.0) c.cell_of-at.ensures.cell c.cell_of-at.ensures.inside c.index_mut-cell.ensures.value in
+    present c.args.nodes.now c.args.cells.now.items c.requires.filed.0 c.cell_of-at.result c.args.old c.args.page c.index_mut-cell.result.now read c.requires.filed.2 c.requires.filed.1
 
 pub replace-requires-clause-absent : goal.replace-requires-clause-absent
 replace-requires-clause-absent c =
-    let f = c.requires.filed in
-    let cells = c.args.cells.now.items in
-    let at = c.cell_of-at.result in
-    let all = c.len.ensures ∙ c.args.cells.now.ok.0 in
-    let there : slice_get cells at ≡ Some c.index_mut-cell.result.now =
-    slice_get_read cells (length cells) at c.index_mut-cell.result.now refl (omega (arith, c.cell_of-at.ensures.inside, all)) c.index_mut-cell.ensures.value in
-    absent c.args.nodes.now cells f.0 at c.args.new c.index_mut-cell.result.now there f.3 f.1
+    let read = read_of c.args.cells.now.items c.args.page _ _ _ (c.len.ensures ∙ c.args.cells.now.ok.0) c.cell_of-at.ensures.cell c.cell_of-at.ensures.inside c.index_mut-cell.ensures.value in
+    absent c.args.nodes.now c.args.cells.now.items c.requires.filed.0 c.cell_of-at.result c.args.new c.index_mut-cell.result.now read.there c.requires.filed.3 c.requires.filed.1
 
 pub returns-clause-filed : goal.returns-clause-filed
 returns-clause-filed c = λ tags filed some none.
-    let cells = c.args.cells.now.items in
-    let at = c.cell_of-at.result in
-    let all = c.len.ensures ∙ c.args.cells.now.ok.0 in
-    let own : at ≡ cell_of (length cells) c.args.page = c.cell_of-at.ensures.cell ∙ ap (λ n. cell_of n c.args.page) all in
-    let there : slice_get cells at ≡ Some c.index_mut-cell.result.now =
-    slice_get_read cells (length cells) at c.index_mut-cell.result.now refl (omega (arith, c.cell_of-at.ensures.inside, all)) c.index_mut-cell.ensures.value in
-    let e = c.replace.ensures in
-    filed_moved c.args.nodes.now c.replace.new.nodes cells tags at c.args.old c.args.new c.args.page c.index_mut-cell.result.now c.replace.new.self own there some none filed e.pair e.list e.others
+    let read = read_of c.args.cells.now.items c.args.page _ _ _ (c.len.ensures ∙ c.args.cells.now.ok.0) c.cell_of-at.ensures.cell c.cell_of-at.ensures.inside c.index_mut-cell.ensures.value in
+    filed_moved c.args.nodes.now c.replace.new.nodes c.args.cells.now.items tags c.cell_of-at.result c.args.old c.args.new c.args.page c.index_mut-cell.result.now c.replace.new.self read some none filed c.replace.ensures.pair c.replace.ensures.list c.replace.ensures.others
 
 pub returns-clause-nodes : goal.returns-clause-nodes
 returns-clause-nodes c =
-    let f = c.requires.filed in
-    let cells = c.args.cells.now.items in
-    let at = c.cell_of-at.result in
-    let all = c.len.ensures ∙ c.args.cells.now.ok.0 in
-    let there : slice_get cells at ≡ Some c.index_mut-cell.result.now =
-    slice_get_read cells (length cells) at c.index_mut-cell.result.now refl (omega (arith, c.cell_of-at.ensures.inside, all)) c.index_mut-cell.ensures.value in
-    let k = f.1 at c.index_mut-cell.result.now there in
+    let read = read_of c.args.cells.now.items c.args.page _ _ _ (c.len.ensures ∙ c.args.cells.now.ok.0) c.cell_of-at.ensures.cell c.cell_of-at.ensures.inside c.index_mut-cell.ensures.value in
+    let k = c.requires.filed.1 c.cell_of-at.result c.index_mut-cell.result.now read.there in
     (c.replace.ensures.others k.frames k.chain_is).nodes

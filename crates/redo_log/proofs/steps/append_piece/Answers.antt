@@ -21,7 +21,7 @@ swap_as-requires g c =
         (
           search rules,
           subst (λ (q : Piece). Turns Kept by v (λ _. c.args.words) (Appends q)) (sym c.requires.piece)
-              (appends by v p c.args.words c.requires.keeps c.requires.start c.requires.words long c.requires.sound),
+              (appends by v p c.args.words c.requires.keeps c.requires.start c.requires.words long c.requires.sound c.requires.share),
         ),
       ),
     )

@@ -10,7 +10,7 @@ swap_as-requires g c = (
     (
       search rules,
       rises _ _ c.args.end c.args.durable c.args.faults c.requires.keeps c.requires.end
-          c.requires.later.0 c.requires.later.1 c.requires.sound.0 c.requires.sound.1,
+          c.requires.later.0 c.requires.later.1 c.requires.sound.0 c.requires.sound.1 c.requires.share,
     ),
   ),
 )

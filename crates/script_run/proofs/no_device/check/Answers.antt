@@ -1,4 +1,4 @@
-use Rattle.std.proofs.Common.{◌≡◌, ◌≢◌, ℕ, ◌⊎◌, inl, inr, refl, ap, ◌∙◌, sym, subst, arith}
+use Rattle.std.proofs.Common.{◌≡◌, ◌≢◌, ℕ, ◌⊎◌, inl, inr, refl, ◌∙◌, sym, subst, arith}
 use Rattle.script_text.specs.Verdict.{IsBad}
 use Rattle.script_run.specs.Ends.{IsNoScriptErr, IsBadAt}
 use Rattle.script_run.proofs.no_device.check.Goals as goal
@@ -37,7 +37,6 @@ returns-in-Ok-clause-checked g c =
       bad_only = λ bytes n e bad. absurd (c.in-Ok.ensures.bad bytes n e bad);
       read_fault = λ four. absurd (no_fault c.print.result 4 ended.statuses (inr refl) four);
       write_fault = λ five. (ended.cut five).0;
-      taken = c.in-Ok.ensures.taken;
     }
 
 pub returns-in-Err-Bad-clause-checked : goal.returns-in-Err-Bad-clause-checked
@@ -51,5 +50,4 @@ returns-in-Err-Bad-clause-checked g c = record {
   bad_only = λ bytes n e bad. inr (inl (refl, c.in-Err-Bad.line-is ∙ subst (IsBadAt n) c.in-Err-Bad.field-0-is (c.in-Err-Bad.ensures.bad bytes n e bad)));
   read_fault = λ four. absurd (omega (arith, four));
   write_fault = λ five. absurd (omega (arith, five));
-  taken = c.in-Err-Bad.ensures.taken;
 }

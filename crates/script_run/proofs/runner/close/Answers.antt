@@ -4,7 +4,9 @@ use Rattle.page_ids.specs.declared.faults.OutOfMemory.{OutOfMemory}
 use Rattle.trail.specs.declared.event.Entry.{Entry}
 use Rattle.trail.specs.Dirt.{dirty}
 use Rattle.desk.specs.declared.calls.CleanErr.{CleanErr}
-use Rattle.desk.specs.Changes.{IsCleanRefusal}
+use Rattle.desk.specs.Cleans.{IsCleanRefusal}
+use Rattle.desk.specs.Moments.{moment_of}
+use Rattle.frame_words.specs.Plain.{seen_of}
 use Rattle.script_run.specs.Runs.{IsClosed}
 use Rattle.script_run.proofs.Framing.{all_told}
 use Rattle.script_run.proofs.Flushing.{runner, write_backs}
@@ -26,25 +28,27 @@ returns-clause-closed g c =
     let old = c.args.desk.now.state in
     let new = c.clean_at.new.self.state in
     let P : Result (Option FaultAt) OutOfMemory → Type 0 = λ r. IfOk r (λ fault. IsClosed old new fault) in
-    let R : CleanErr → Type 0 = λ e. IsCleanRefusal old new runner 16384 true (g.D.PageDisk.seen old.disk).faults (g.D.PageDisk.seen new.disk).faults c.args.redo.now.seen.faults c.clean_at.new.redo.seen.faults e in
+    let m = moment_of seen_of g.R.RedoDisk.seen c.args.desk.now c.args.frames.now c.args.redo.now in
+    let n = moment_of seen_of g.R.RedoDisk.seen c.clean_at.new.self c.clean_at.new.frames c.clean_at.new.redo in
+    let R : CleanErr → Type 0 = λ e. IsCleanRefusal g.D.PageDisk.seen m n runner 16384 true e in
     elim c.match-clean_at.branch [
       | in-Ok w ↦
-          let ok = w.in-Ok.ensures.ok.1 in
-          let n = w.in-Ok.field-0.written in
-          let all = write_backs old.config.first runner n old.history ok.cleaned.mid c.dirty_pages_are_apart.ensures.front ok.cleaned.writes in
+          let ok = w.in-Ok.ensures.answers.cleaned in
+          let k = w.in-Ok.field-0.written in
+          let all = write_backs old.config.first runner k old.history ok.cleaned.mid c.dirty_pages_are_apart.ensures.front ok.cleaned.writes in
           subst P (sym w.result-is) (record {
-            written = n;
+            written = k;
             cleaned = ok.cleaned;
             most = ok.most;
-            clean = λ fine. none_left n (length (dirty ok.cleaned.mid)) (length (dirty old.history)) old.config.frames new.history all c.clean_at.ensures.few c.requires.frames ok.all;
+            clean = λ fine. none_left k (length (dirty ok.cleaned.mid)) (length (dirty old.history)) old.config.frames new.history all c.clean_at.ensures.few.0 c.requires.frames ok.all;
           })
       | in-Err-OutOfMemory w ↦ subst P (sym w.result-is) tt
       | in-Err-RedoFault w ↦
-          let is = subst R w.in-Err-RedoFault.field-0-is w.in-Err-RedoFault.ensures.refused in
+          let is = subst R w.in-Err-RedoFault.field-0-is w.in-Err-RedoFault.ensures.answers in
           let C : FaultAt → Type 0 = λ f. IsClosed old new (Some f) in
           subst P (sym w.result-is) (subst C (sym w.fault_of.ensures) (record { written = is.1.written; cleaned = is.1.cleaned; most = is.1.most; clean = λ fine. absurd (cc) }))
       | in-Err-DiskFault w ↦
-          let is = subst R w.in-Err-DiskFault.field-0-is w.in-Err-DiskFault.ensures.refused in
+          let is = subst R w.in-Err-DiskFault.field-0-is w.in-Err-DiskFault.ensures.answers in
           let C : FaultAt → Type 0 = λ f. IsClosed old new (Some f) in
           subst P (sym w.result-is) (subst C (sym w.fault_of-in-Err-DiskFault.ensures) (record { written = is.1.written; cleaned = is.1.cleaned; most = is.1.most; clean = λ fine. absurd (cc) }))
     ]

@@ -1,4 +1,4 @@
-use Rattle.std.proofs.Common.{◌≡◌, ◌<◌, ◌≤◌, ◌+◌, ◌*◌, ◌^◌, ℕ, List, [], ◌∷◌, Option, None, Some, IfSome, IsSomeAnd, ap, ◌∙◌, sym, subst, refl, rules, arith, reverse, length}
+use Rattle.std.proofs.Common.{◌≡◌, ◌<◌, ◌≤◌, ◌+◌, ◌*◌, ◌^◌, ℕ, List, [], ◌∷◌, Option, None, Some, IfSome, IsSomeAnd, ap, ◌∙◌, sym, subst, refl, arith, reverse, length}
 use Rattle.std.specs.List.{AllByRecursion}
 use Rattle.std.specs.Prelude.{unwrap_or}
 use Rattle.std.proofs.lemmas.List.{length-reverse}
@@ -16,7 +16,6 @@ use Rattle.trail.specs.declared.event.Event.{Event}
 use Rattle.trail.specs.declared.event.Held.{Held}
 use Rattle.trail.specs.Alone.{sole_of}
 use Rattle.trail.specs.Trails.{Opening, AreNumbered, mark, entries}
-use Rattle.trail.specs.Merging.{merged, AllWithin}
 use Rattle.trail.specs.Saved.{AreDurable}
 use Rattle.trail.specs.Dirt.{dirty, log_end}
 use Rattle.desk.specs.Base.{Opened, IsBase}
@@ -24,6 +23,7 @@ use Rattle.desk.specs.Behind.{IsOpening}
 use Rattle.frame_words.specs.Plain.{Plain, seen_of}
 use Rattle.instance_lists.specs.Ledger.{IsOneChunk}
 use Rattle.desk.specs.Logged.{IsLogged}
+use Rattle.trail.specs.Book.{book}
 use Rattle.desk.specs.State.{State}
 use Rattle.desk.specs.Steps.{IsFresh, row_in}
 use Rattle.desk.specs.Tied.{AreTied}
@@ -31,8 +31,7 @@ use Rattle.script_text.specs.Plan.{Plan, first_thread, commands_of}
 use Rattle.script_text.specs.Within.{IsInRange, IsWithin}
 use Rattle.script_text.specs.declared.script.TheConstants.{MOST_CALLS}
 use Rattle.script_text.specs.declared.script.Command.{Command}
-use Rattle.script_text.specs.declared.script.Command.TheVariants as command
-use Rattle.script_text.specs.Grammar.{calls_of, calls_in, all_calls}
+use Rattle.script_text.specs.Grammar.{calls_in, all_calls}
 use Rattle.script_run.specs.Openings.{Start, opening_of, opened_of, AreFaultsWithin}
 use Rattle.script_run.specs.Work.{Working, SoFar, StandsBehind, Worked, IsReady, IsBehindIt, AreInChunk, AreApart}
 use Rattle.script_run.specs.Workers.{working}
@@ -51,6 +50,7 @@ ready_new : {D : Type 0} (seen : D → DiskSeen) (desk : State D) (frames : Plai
     → ((f : ℕ) → f < length frames.rows → (row_in frames.rows f).held ≡ Some 0) → IsReady seen desk frames []
 ready_new seen desk frames tied none unfixed = record {
   tied = tied;
+  hands = ap (λ (h : List Entry). (book desk.config h).hands) none;
   homes = let H : List Entry → Type 0 = λ h. AreInChunk desk.config h in subst H (sym none) (λ p f here. absurd (cc));
   apart = let A : List Entry → Type 0 = λ h. AreApart h in subst A (sym none) (λ p q f here there. absurd (cc));
   housed = tt;
@@ -86,28 +86,16 @@ work-requires-clause-ranges g c κs within =
     let config : c.in-Ok-new.desk.state.config ≡ c.args.script.now.config = c.in-Ok-new.ensures.fresh.config_is ∙ c.config-config.ensures in
     subst (λ x. R x c.commands.result.now) (sym config) (subst (λ l. R c.args.script.now.config l) (sym c.commands.ensures) there)
 
-one_call : (n : ℕ) (c : Command) → n ≡ 1 → calls_of n c ≡ 1
-one_call n (command.Fix p now) one = refl
-one_call n (command.Create p now) one = refl
-one_call n (command.Read p at len) one = refl
-one_call n (command.Put p at bytes) one = refl
-one_call n (command.Unfix p) one = refl
-one_call n (command.Clean bound) one = one
-one_call n command.Checkpoint one = one
-
-counted : (n : ℕ) (commands : List Command) → n ≡ 1 → calls_in n commands ≡ length commands
-counted n [] one = refl
-counted n (c ∷ commands) one =
-    let more : calls_in n (c ∷ commands) ≡ calls_of n c + calls_in n commands = sum_by-cons (calls_of n) c commands in
-    omega (arith, more, one_call n c one, counted n commands one)
-
 -- the first thread makes no more calls than all threads
-few_first : (n : ℕ) (threads : List (List Command)) → n ≡ 1 → all_calls n threads ≤ MOST_CALLS → length (first_thread threads) ≤ MOST_CALLS
-few_first n [] one few = omega arith
-few_first n (commands ∷ others) one few = omega (arith, few, counted n commands one, sum_by-cons (calls_in n) commands others)
+few_first : (n : ℕ) (threads : List (List Command)) → all_calls n threads ≤ MOST_CALLS → calls_in n (first_thread threads) ≤ MOST_CALLS
+few_first n [] few = omega arith
+few_first n (commands ∷ others) few = omega (arith, few, sum_by-cons (calls_in n) commands others)
 
-few_commands : (plan : Plan) (commands : List Command) → commands ≡ commands_of plan → IsWithin plan → length commands ≤ MOST_CALLS
-few_commands plan commands are within = omega (arith, ap (length {A = Command}) are, few_first plan.config.instances plan.threads within.instances within.calls)
+few_calls : (plan : Plan) (commands : List Command) → commands ≡ commands_of plan → IsWithin plan → calls_in 1 commands ≤ MOST_CALLS
+few_calls plan commands are within =
+    let few : calls_in plan.config.instances (commands_of plan) ≤ MOST_CALLS = few_first plan.config.instances plan.threads within.calls in
+    let one : calls_in plan.config.instances commands ≡ calls_in 1 commands = ap (λ n. calls_in n commands) within.instances in
+    omega (arith, few, one, ap (calls_in plan.config.instances) are)
 
 -- a script has few commands, and no entry yet
 few_places : (first n : ℕ) (history : List Entry) → first ≡ 0 → history ≡ [] → n ≤ MOST_CALLS → first + 2 * length history + 32770 * n ≤ LIMIT
@@ -126,13 +114,13 @@ pub work-requires-clause-places : goal.work-requires-clause-places
 work-requires-clause-places g c κs within =
     let fresh = c.in-Ok-new.ensures.fresh in
     let first = ap (λ (x : Config). x.first) (fresh.config_is ∙ c.config-config.ensures) ∙ c.requires.script.first in
-    few_places c.in-Ok-new.desk.state.config.first (length c.commands.result.now) c.in-Ok-new.desk.state.history first fresh.history
-    (few_commands c.args.script.now c.commands.result.now c.commands.ensures c.requires.script)
+    few_places c.in-Ok-new.desk.state.config.first (calls_in 1 c.commands.result.now) c.in-Ok-new.desk.state.history first fresh.history
+    (few_calls c.args.script.now c.commands.result.now c.commands.ensures c.requires.script)
 
 pub work-requires-clause-number : goal.work-requires-clause-number
 work-requires-clause-number g c κs within =
-    few_numbers c.new-pass.result.next (length c.commands.result.now) (ap (λ (x : Working). x.next) c.new-pass.ensures)
-    (few_commands c.args.script.now c.commands.result.now c.commands.ensures c.requires.script)
+    few_numbers c.new-pass.result.next (calls_in 1 c.commands.result.now) (ap (λ (x : Working). x.next) c.new-pass.ensures)
+    (few_calls c.args.script.now c.commands.result.now c.commands.ensures c.requires.script)
 
 pub close-requires-clause-places : goal.close-requires-clause-places
 close-requires-clause-places g c κs within =
@@ -140,8 +128,8 @@ close-requires-clause-places g c κs within =
     let worked = c.in_ok-work.ensures in
     let desk = c.work.new.desk.state in
     let first = ap (λ (x : Config). x.first) (worked.left.config ∙ fresh.config_is ∙ c.config-config.ensures) ∙ c.requires.script.first in
-    few_more desk.config.first (length c.commands.result.now) (length c.in-Ok-new.desk.state.history) (length desk.history) (length (dirty desk.history)) first
-    (ap (length {A = Entry}) fresh.history) (few_commands c.args.script.now c.commands.result.now c.commands.ensures c.requires.script) worked.grown (c.dirty_pages_are_few.ensures desk.history)
+    few_more desk.config.first (calls_in 1 c.commands.result.now) (length c.in-Ok-new.desk.state.history) (length desk.history) (length (dirty desk.history)) first
+    (ap (length {A = Entry}) fresh.history) (few_calls c.args.script.now c.commands.result.now c.commands.ensures c.requires.script) worked.grown (c.dirty_pages_are_few.ensures desk.history)
 
 pub returns-clause-run : goal.returns-clause-run
 returns-clause-run g c =
@@ -167,9 +155,8 @@ returns-clause-run g c =
     let config_is : c.config-config.result.now ≡ plan.config = c.config-config.ensures in
     let F : Config → Type 0 = λ config. IsFresh c.in-Ok-new.desk.state config 0 disk in
     let fresh = subst F config_is c.in-Ok-new.ensures.fresh in
-    let M : ℕ → Type 0 = λ first. AreNumbered first (reverse history) → AllWithin (mark first (reverse history)) (account ∷ []) → trail.events ≡ merged first history (account ∷ []) in
-    let merges = subst M (ap (λ (x : Config). x.first) config_is) c.in_ok-trail.ensures.events in
-    let law : Merges = record { numbered = c.one_account_merges.ensures.numbered; within = c.one_account_merges.ensures.within; merged_is = c.one_account_merges.ensures.merged } in
+    let merges = c.in_ok-trail.ensures.merged in
+    let law : Merges = c.one_trail_is_merged.ensures.only in
     let front = c.dirty_pages_are_apart.ensures.front in
     let spaces_are : (s : ℕ) → (seen last).spaces s ≡ (seen disk).spaces s = λ s.
     ap (λ d. (seen d).spaces s) last_is ∙ c.close.ensures.spaces s ∙ c.in_ok-work.ensures.left.spaces_are s ∙ ap (λ d. (seen d).spaces s) fresh.disk_is in
@@ -192,9 +179,9 @@ returns-clause-run g c =
     let stands : StandsBehind seen o start c.in-Ok-new.desk.state frames = on_some base _ _ (λ first e is_base. c.in-Ok-new.ensures.behind (opened_of o start first) (seen_of frames) (opened o first refl is_base)) based in
     done o start [] so stands in
     let left : desk.config.first + length desk.history + 16385 ≤ LIMIT =
-    few_left desk.config.first (length c.commands.result.now) (length c.in-Ok-new.desk.state.history) (length desk.history)
+    few_left desk.config.first (calls_in 1 c.commands.result.now) (length c.in-Ok-new.desk.state.history) (length desk.history)
     (ap (λ (x : Config). x.first) (c.in_ok-work.ensures.left.config ∙ c.in-Ok-new.ensures.fresh.config_is ∙ c.config-config.ensures) ∙ c.requires.script.first)
-    (ap (length {A = Entry}) c.in-Ok-new.ensures.fresh.history) (few_commands c.args.script.now c.commands.result.now c.commands.ensures c.requires.script) c.in_ok-work.ensures.grown in
+    (ap (length {A = Entry}) c.in-Ok-new.ensures.fresh.history) (few_calls c.args.script.now c.commands.result.now c.commands.ensures c.requires.script) c.in_ok-work.ensures.grown in
     let all = λ (base : Option (PageId → Option Content)) (based : IfSome base (λ first. IsBase (seen disk).told (pages_in (seen last).spaces) first)).
     finished seen (opening_of plan.config base) start desk new was is w (commands_of plan) fault history account trail front
     (c.in_ok-work.ensures.pass ∙ ap (λ (x : Working). x.pass) c.new-pass.ensures) (worked base based)

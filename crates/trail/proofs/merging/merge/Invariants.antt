@@ -1,13 +1,13 @@
-use Rattle.std.proofs.Common.{◌≡◌, ◌≤◌, ◌+◌, ◌++◌, length, reverse, vec_len, vec_capacity}
-use Rattle.trail.specs.Merging.{receipts_in}
-use Rattle.trail.specs.Backward.{turned, backward}
+use Rattle.std.proofs.Common.{◌≤◌, ◌+◌, ◌++◌, length, vec_len, vec_capacity}
+use Rattle.std.specs.List.Sorted.{IsPermutation}
+use Rattle.trail.specs.Merging.{entries_told, receipts_in, together, told}
 use Rattle.trail.proofs.merging.merge.Given as goal
 
-abbrev pub invariant-loop-entry : goal.invariant-loop-entry
-invariant-loop-entry l = record {
-  rest : l.room.items ++ backward l.first (reverse l.history.items) (turned l.accounts.items) ≡ backward l.first (reverse l.fn.history.items) (turned l.fn.accounts.items);
-  room : vec_len l.room + (vec_len l.history + receipts_in l.accounts.items) ≤ vec_capacity l.room;
+abbrev pub invariant-loop-account : goal.invariant-loop-account
+invariant-loop-account l = record {
+  kept : IsPermutation (entries_told l.fn.history.items ++ told (together l.fn.accounts.items)) (l.room.items ++ told (together l.accounts.items));
+  room : vec_len l.room + receipts_in l.accounts.items ≤ vec_capacity l.room;
 }
 
-abbrev pub decreases-loop-entry : goal.decreases-loop-entry
-decreases-loop-entry l = length l.history.items
+abbrev pub decreases-loop-account : goal.decreases-loop-account
+decreases-loop-account l = length l.accounts.items

@@ -1,9 +1,27 @@
-use Rattle.std.proofs.Common.{◌≡◌, [], ap, ◌∙◌, sym, reverse}
-use Rattle.trail.specs.Backward.{here}
-use Rattle.trail.proofs.Taking.{after_none}
+use Rattle.std.proofs.Common.{◌≡◌, ◌∙◌, ◌++◌, ◌∷◌, [], ap, arith, refl, rules}
+use Rattle.std.specs.Option.{option_to_list}
+use Rattle.std.proofs.lemmas.List.Sorted.{IsPermutation-refl}
+use Rattle.trail.specs.declared.event.Receipt.{Receipt}
+use Rattle.trail.specs.declared.event.Event.TheVariants as event
+use Rattle.trail.proofs.Ranked.{still_all, all_moved}
 use Rattle.trail.proofs.merging.take_receipts.Goals as goal
 
-pub returns-clause-left : goal.returns-clause-left
-returns-clause-left c =
-    let none : (c.pop_at.new.account.items ≡ c.loop-receipt.account.items) × (here c.args.place (reverse c.loop-receipt.account.items) ≡ []) = c.in_default.ensures in
-    ap reverse none.0 ∙ sym (after_none c.args.place (reverse c.loop-receipt.account.items) none.1) ∙ c.loop-receipt.invariant.left
+pub loop-receipt-init : goal.loop-receipt-init
+loop-receipt-init c = record { kept = IsPermutation-refl _; count = refl; room = omega arith }
+
+pub loop-receipt-preserved : goal.loop-receipt-preserved
+loop-receipt-preserved c =
+    let l = c.loop-receipt in
+    let rest = c.pop.new.self.items in
+    let popped : l.account.items ≡ rest ++ c.in-Some.receipt ∷ [] = c.pop.ensures.items ∙ ap (λ x. rest ++ option_to_list x) c.in-Some.is in
+    record {
+      kept = still_all (λ (x : Receipt). event.Receipt x) _ l.room.items c.push_reserved.new.self.items l.account.items rest c.in-Some.receipt l.invariant.kept popped c.push_reserved.ensures.items;
+      count = search rules;
+      room = search rules;
+    }
+
+pub returns-clause-kept : goal.returns-clause-kept
+returns-clause-kept c =
+    let l = c.loop-receipt in
+    let none : l.account.items ≡ [] = search rules in
+    all_moved (λ (x : Receipt). event.Receipt x) _ l.room.items l.account.items l.invariant.kept none

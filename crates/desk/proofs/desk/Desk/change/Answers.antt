@@ -1,8 +1,10 @@
-use Rattle.std.proofs.Common.{◌≡◌, refl, ap, ◌∙◌}
+use Rattle.std.proofs.Common.{[], ◌∷◌, refl}
 use Rattle.trail.specs.declared.event.Kind.TheVariants as kind
-use Rattle.frame_words.specs.Seen.{FramesSeen}
+use Rattle.desk.specs.Steps.{next_entry}
 use Rattle.desk.proofs.Changing.{put_lay, put_kept}
+use Rattle.desk.proofs.Coming.{follows_on, follows_row, follows_one}
 use Rattle.desk.proofs.Fixing.{settled_put}
+use Rattle.desk.proofs.Hands.{hands_on}
 use Rattle.desk.proofs.Moments.{keeps_entry}
 use Rattle.desk.proofs.desk.Desk.change.Goals as goal
 
@@ -24,6 +26,9 @@ returns g c =
     let tied = c.requires.rest.tied in
     let a = c.append.ensures in
     let end = c.args.span.end in
+    let u = g.F.Frames.seen c.take_image-image.new.frames in
+    let v = g.F.Frames.seen c.append.new.frames in
+    let e = next_entry old c.args.by (kind.Put c.args.page c.args.at c.args.bytes c.args.span.start end) in
     let kept = put_kept S s (g.F.Frames.seen c.take_image-image.new.frames) old c.args.by c.args.page f c.take_image-image.result
     tied c.requires.alone c.frame_of-frame.ensures.home c.frame_of-frame.ensures.below c.frame_of-frame.ensures.only c.take_image-image.ensures.image c.take_image-image.ensures.seen
     c.args.at c.args.bytes c.as_slice.result.now c.args.span.start end c.next_place-place.result c.patch.new.self (g.F.Frames.seen c.append.new.frames) t
@@ -33,7 +38,7 @@ returns g c =
       lsn = refl;
       behind = kept.behind;
       keeps = λ l holds within. keeps_entry S old new s t l c.args.by (kind.Put c.args.page c.args.at c.args.bytes c.args.span.start end) a.appended a.disk holds (λ known. within)
-          (record { tied = kept.tied; settled = settled_put s.rows t.rows kept.done.frame _ _ c.requires.alone kept.done.rows_are c.requires.rest.settled })
-          (ap (λ (x : FramesSeen). x.base) c.give_changed.ensures.seen ∙ ap (λ (x : FramesSeen). x.base) a.seen ∙ ap (λ (x : FramesSeen). x.base) c.take_image-image.ensures.seen)
+          (record { tied = kept.tied; settled = settled_put s.rows t.rows kept.done.frame _ _ c.requires.alone kept.done.rows_are c.requires.rest.settled; hands = hands_on old new c.args.by _ a.appended (λ b. refl) c.requires.rest.hands })
+          (follows_on (e ∷ []) [] s v t (follows_on [] (e ∷ []) s u v (follows_row s u f _ c.take_image-image.ensures.seen) (follows_one u v e a.seen)) (follows_row v t f _ c.give_changed.ensures.seen))
           (λ o based before. kept.behind o before);
     }

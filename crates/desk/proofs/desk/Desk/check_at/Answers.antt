@@ -1,6 +1,7 @@
-use Rattle.std.proofs.Common.{arith, ap, ◌∙◌}
+use Rattle.std.proofs.Common.{arith, refl, ap, ◌∙◌}
 use Rattle.desk.specs.State.{State}
 use Rattle.desk.proofs.Checking.{checked_is, checked_tied, checked_behind, checked_logged, checked_end}
+use Rattle.desk.proofs.Hands.{hands_on}
 use Rattle.desk.proofs.desk.Desk.check_at.Goals as goal
 
 pub returns-clause-answers : goal.returns-clause-answers
@@ -16,6 +17,7 @@ returns-clause-answers g c =
       logged = checked_logged c.args.redo.now.seen old new by lsn is.entry c.checkpoint-lsn.ensures.early;
       known = (let same = checked_end old new by lsn is.entry in omega (arith, same, c.requires.known));
       tied = λ s tied. checked_tied S s old new by lsn is.entry is.disk tied;
+      hands = hands_on old new by _ is.entry (λ b. refl);
       behind = λ o s before. checked_behind S o s old new by lsn is.entry is.disk before;
     }
 

@@ -1,16 +1,21 @@
-use Rattle.std.proofs.Common.{◌≡◌, true, false, List, [], ap, ◌∙◌, sym, subst, arith}
+use Rattle.std.proofs.Common.{◌≡◌, ◌∷◌, ℕ, true, false, List, [], ap, ◌∙◌, sym, subst, arith, rules, inr}
 use Rattle.trail.specs.declared.event.Entry.{Entry}
 use Rattle.trail.specs.declared.event.Kind.TheVariants as kind
 use Rattle.trail.specs.Dirt.{is_dirty, log_end}
-use Rattle.frame_words.specs.Appends.{FitsOpen}
+use Rattle.frame_words.specs.Appends.{FitsOpen, appended}
 use Rattle.frame_words.specs.Conditions.{MayAppend, AreFound}
 use Rattle.frame_words.specs.Seen.{FramesSeen}
+use Rattle.desk.specs.Behind.{IsBehind}
 use Rattle.desk.specs.Claimed.{AreTiedBut}
-use Rattle.desk.specs.Logged.{IsLogged}
+use Rattle.desk.specs.Logged.{IsLogged, AreUpTo}
 use Rattle.desk.specs.State.{State}
 use Rattle.desk.specs.Steps.{next_entry}
-use Rattle.desk.proofs.Claims.{may_append, published_but, wrote_but, wrote_behind, unwritten_but, unwritten_behind, on_disk, written_clean}
-use Rattle.desk.proofs.Logging.{upto_more}
+use Rattle.desk.specs.Victims.{LeavesTurn}
+use Rattle.desk.proofs.Changing.{grown_mid}
+use Rattle.desk.proofs.Claims.{mapped_same, may_append, published_but, wrote_but, wrote_behind, unwritten_but, unwritten_behind, on_disk, written_clean}
+use Rattle.desk.proofs.Evicting.{leaves_more}
+use Rattle.desk.proofs.Flushing.{leaves_written}
+use Rattle.desk.proofs.Logging.{logged_later, upto_none, upto_more}
 use Rattle.desk.proofs.PassedWords.{each_some}
 use Rattle.desk.proofs.desk.Desk.clean_first.Goals as goal
 
@@ -30,104 +35,136 @@ append-requires-clause-frames g c = λ κs within.
     (published_but P.seen s desk v.page v.frame but) (λ is. (but.own is v.page v.frame but.housed, tt)) tt
     (each_some s.opened (λ o. FitsOpen o k) (λ o is. tt)) (each_some s.found (λ found. AreFound found []) (λ found is. tt))))
 
-pub returns-in-Ok-clause-clean : goal.returns-in-Ok-clause-clean
-returns-in-Ok-clause-clean g c =
+pub returns-in-Ok-clause-answers : goal.returns-in-Ok-clause-answers
+returns-in-Ok-clause-answers g c =
     let v = c.args.victim in
+    let old = c.args.self.now.state in
     let mid = c.write_claimed.new.self.state in
+    let new = c.append.new.self.state in
     let e = next_entry mid c.args.by (kind.Write v.page c.in-Ok.lsn c.in-Ok.upto) in
-    ap (λ (h : List Entry). is_dirty h v.page) c.append.ensures.appended.history ∙ written_clean mid.history v.page e.place e.caller e.number c.in-Ok.lsn c.in-Ok.upto
+    let kept : mid ≡ on_disk old mid.disk = ap (λ x. x.state) c.in-Ok.ensures.kept in
+    let wrote = c.in-Ok.ensures.answers in
+    record {
+      cleaned = inr (record {
+        dirt = wrote.dirt;
+        upto = c.in-Ok.upto;
+        was_dirty = wrote.was_dirty;
+        covered = wrote.covered;
+        entry = grown_mid old mid new mid.disk c.args.by (kind.Write v.page c.in-Ok.lsn c.in-Ok.upto) kept c.append.ensures.appended
+            ∙ ap (λ (n : ℕ). next_entry old c.args.by (kind.Write v.page n c.in-Ok.upto) ∷ old.history) wrote.lsn_is;
+      });
+      clean = ap (λ (h : List Entry). is_dirty h v.page) c.append.ensures.appended.history ∙ written_clean mid.history v.page e.place e.caller e.number c.in-Ok.lsn c.in-Ok.upto;
+    }
 
-pub returns-in-Ok-clause-but : goal.returns-in-Ok-clause-but
-returns-in-Ok-clause-but g c =
+pub returns-in-Ok-clause-left : goal.returns-in-Ok-clause-left
+returns-in-Ok-clause-left g c =
     let laws = g.met.D.PageDisk g.world.𝓛 g.world.𝓜 g.world.𝓡 ((λ s x. x), (λ x. x), (λ x. x), λ x. x) in
     let but = c.requires.but in
     let v = c.args.victim in
     let P = g.D.PageDisk in
+    let s = g.F.Frames.seen c.args.frames.now in
+    let t = g.F.Frames.seen c.append.new.frames in
+    let old = c.args.self.now.state in
     let mid = c.write_claimed.new.self.state in
-    let kept : mid ≡ on_disk c.args.self.now.state mid.disk = ap (λ x. x.state) c.in-Ok.ensures.kept in
-    let written = c.in-Ok.ensures.written but.content but.image in
-    let looks = c.append.ensures.seen ∙ ap (λ (u : FramesSeen). Rattle.frame_words.specs.Appends.appended u (next_entry mid c.args.by (kind.Write v.page c.in-Ok.lsn c.in-Ok.upto))) c.in-Ok.ensures.seen in
-    wrote_but P.seen (g.F.Frames.seen c.args.frames.now) (g.F.Frames.seen c.append.new.frames) c.args.self.now.state mid c.append.new.self.state c.args.by v.page v.frame c.in-Ok.lsn c.in-Ok.upto
-    written.bytes but kept written.page c.in-Ok.ensures.others written.tells_it (λ silent. laws.silent mid.disk v.page silent) c.append.ensures.appended c.append.ensures.disk looks
+    let new = c.append.new.self.state in
+    let a = c.append.ensures in
+    let others = c.in-Ok.ensures.others in
+    let kept : mid ≡ on_disk old mid.disk = ap (λ x. x.state) c.in-Ok.ensures.kept in
+    let told = c.in-Ok.ensures.answers.told but.content but.image in
+    let looks : t ≡ appended s (next_entry mid c.args.by (kind.Write v.page c.in-Ok.lsn c.in-Ok.upto)) =
+    a.seen ∙ ap (λ (u : FramesSeen). appended u (next_entry mid c.args.by (kind.Write v.page c.in-Ok.lsn c.in-Ok.upto))) c.in-Ok.ensures.seen in
+    let soiled : is_dirty old.history v.page ≡ true = ap (λ x. is_dirty x.state.history v.page) (sym c.self.view_is) ∙ sym c.is_dirty-soiled.ensures ∙ c.if-not-soiled.false in
+    let turn : LeavesTurn s t = search rules in
+    record {
+      but = wrote_but P.seen s t old mid new c.args.by v.page v.frame c.in-Ok.lsn c.in-Ok.upto told.bytes but kept told.page others told.tells_it (λ silent. laws.silent mid.disk v.page silent) a.appended a.disk looks;
+      rows = ap (λ (u : FramesSeen). u.rows) looks;
+      found = ap (λ (u : FramesSeen). u.found) looks ∙ mapped_same s.found;
+      turn = turn;
+      desk = leaves_more P.seen old mid new (leaves_written P.seen old mid v.page kept others) a.appended.config a.appended.instance a.disk;
+      unused = λ clean. let bad : true ≡ false = sym soiled ∙ clean in absurd (cc);
+      others = λ q other. ap (λ (d : g.row.D.Denot). (P.seen d).told q) a.disk ∙ others.bytes q other;
+      behind = λ o before. wrote_behind P.seen o s t old mid new c.args.by v.page v.frame c.in-Ok.lsn c.in-Ok.upto told.bytes but kept told.page others told.tells_it (λ silent. laws.silent mid.disk v.page silent) a.appended a.disk looks before;
+    }
 
-pub returns-in-Ok-clause-behind : goal.returns-in-Ok-clause-behind
-returns-in-Ok-clause-behind g c = λ o before.
-    let laws = g.met.D.PageDisk g.world.𝓛 g.world.𝓜 g.world.𝓡 ((λ s x. x), (λ x. x), (λ x. x), λ x. x) in
-    let but = c.requires.but in
+pub returns-in-Err-clause-answers : goal.returns-in-Err-clause-answers
+returns-in-Err-clause-answers g c =
     let v = c.args.victim in
     let P = g.D.PageDisk in
+    let old = c.args.self.now.state in
     let mid = c.write_claimed.new.self.state in
-    let kept : mid ≡ on_disk c.args.self.now.state mid.disk = ap (λ x. x.state) c.in-Ok.ensures.kept in
-    let written = c.in-Ok.ensures.written but.content but.image in
-    let looks = c.append.ensures.seen ∙ ap (λ (u : FramesSeen). Rattle.frame_words.specs.Appends.appended u (next_entry mid c.args.by (kind.Write v.page c.in-Ok.lsn c.in-Ok.upto))) c.in-Ok.ensures.seen in
-    wrote_behind P.seen o (g.F.Frames.seen c.args.frames.now) (g.F.Frames.seen c.append.new.frames) c.args.self.now.state mid c.append.new.self.state c.args.by v.page v.frame c.in-Ok.lsn c.in-Ok.upto
-    written.bytes but kept written.page c.in-Ok.ensures.others written.tells_it (λ silent. laws.silent mid.disk v.page silent) c.append.ensures.appended c.append.ensures.disk looks before
+    let failed = c.in-Err.ensures.answers in
+    let kept : mid ≡ on_disk old mid.disk = ap (λ x. x.state) c.in-Err.ensures.kept in
+    let soiled : is_dirty old.history v.page ≡ true = ap (λ x. is_dirty x.state.history v.page) (sym c.self.view_is) ∙ sym c.is_dirty-soiled.ensures ∙ c.if-not-soiled.false in
+    record {
+      failed = c.in-Err.ensures.kept;
+      soiled = soiled;
+      fault = failed.fault;
+      forced = failed.forced;
+      stands = λ o s before. unwritten_behind P.seen o s old mid v.page soiled kept c.in-Err.ensures.others failed.fades before;
+    }
 
-pub returns-in-Err-clause-but : goal.returns-in-Err-clause-but
-returns-in-Err-clause-but g c =
+pub returns-in-Err-clause-left : goal.returns-in-Err-clause-left
+returns-in-Err-clause-left g c =
     let v = c.args.victim in
     let P = g.D.PageDisk in
+    let s = g.F.Frames.seen c.args.frames.now in
+    let old = c.args.self.now.state in
     let mid = c.write_claimed.new.self.state in
-    let kept : mid ≡ on_disk c.args.self.now.state mid.disk = ap (λ x. x.state) c.in-Err.ensures.kept in
-    let soiled : is_dirty c.args.self.now.state.history v.page ≡ true = ap (λ x. is_dirty x.state.history v.page) (sym c.self.view_is) ∙ sym c.is_dirty-soiled.ensures ∙ c.if-not-soiled.false in
-    subst (λ (u : FramesSeen). AreTiedBut P.seen u mid v.page v.frame) (sym c.in-Err.ensures.seen)
-    (unwritten_but P.seen (g.F.Frames.seen c.args.frames.now) c.args.self.now.state mid v.page v.frame soiled kept c.in-Err.ensures.others c.in-Err.ensures.failed c.requires.but)
-
-pub returns-in-Err-clause-behind : goal.returns-in-Err-clause-behind
-returns-in-Err-clause-behind g c = λ o before.
-    let v = c.args.victim in
-    let P = g.D.PageDisk in
-    let mid = c.write_claimed.new.self.state in
-    let kept : mid ≡ on_disk c.args.self.now.state mid.disk = ap (λ x. x.state) c.in-Err.ensures.kept in
-    let soiled : is_dirty c.args.self.now.state.history v.page ≡ true = ap (λ x. is_dirty x.state.history v.page) (sym c.self.view_is) ∙ sym c.is_dirty-soiled.ensures ∙ c.if-not-soiled.false in
-    subst (λ (u : FramesSeen). Rattle.desk.specs.Behind.IsBehind P.seen o mid u) (sym c.in-Err.ensures.seen)
-    (unwritten_behind P.seen o (g.F.Frames.seen c.args.frames.now) c.args.self.now.state mid v.page soiled kept c.in-Err.ensures.others c.in-Err.ensures.failed before)
-
-pub returns-in-Err-clause-stands : goal.returns-in-Err-clause-stands
-returns-in-Err-clause-stands g c = λ o s before.
-    let v = c.args.victim in
-    let P = g.D.PageDisk in
-    let mid = c.write_claimed.new.self.state in
-    let kept : mid ≡ on_disk c.args.self.now.state mid.disk = ap (λ x. x.state) c.in-Err.ensures.kept in
-    let soiled : is_dirty c.args.self.now.state.history v.page ≡ true = ap (λ x. is_dirty x.state.history v.page) (sym c.self.view_is) ∙ sym c.is_dirty-soiled.ensures ∙ c.if-not-soiled.false in
-    unwritten_behind P.seen o s c.args.self.now.state mid v.page soiled kept c.in-Err.ensures.others c.in-Err.ensures.failed before
-
-pub returns-in-Ok-clause-others : goal.returns-in-Ok-clause-others
-returns-in-Ok-clause-others g c = λ q other. ap (λ (d : g.row.D.Denot). (g.D.PageDisk.seen d).told q) c.append.ensures.disk ∙ c.in-Ok.ensures.others.bytes q other
-
-pub returns-in-Err-clause-others : goal.returns-in-Err-clause-others
-returns-in-Err-clause-others g c = λ q other. c.in-Err.ensures.others.bytes q other
-
-pub returns-in-Err-clause-soiled : goal.returns-in-Err-clause-soiled
-returns-in-Err-clause-soiled g c = ap (λ x. is_dirty x.state.history c.args.victim.page) (sym c.self.view_is) ∙ sym c.is_dirty-soiled.ensures ∙ c.if-not-soiled.false
+    let others = c.in-Err.ensures.others in
+    let fades = c.in-Err.ensures.answers.fades in
+    let kept : mid ≡ on_disk old mid.disk = ap (λ x. x.state) c.in-Err.ensures.kept in
+    let soiled : is_dirty old.history v.page ≡ true = ap (λ x. is_dirty x.state.history v.page) (sym c.self.view_is) ∙ sym c.is_dirty-soiled.ensures ∙ c.if-not-soiled.false in
+    let same = c.in-Err.ensures.seen in
+    let turn : LeavesTurn s (g.F.Frames.seen c.write_claimed.new.frames) = search rules in
+    record {
+      but = subst (λ (u : FramesSeen). AreTiedBut P.seen u mid v.page v.frame) (sym same) (unwritten_but P.seen s old mid v.page v.frame soiled kept others fades c.requires.but);
+      rows = ap (λ (u : FramesSeen). u.rows) same;
+      found = ap (λ (u : FramesSeen). u.found) same;
+      turn = turn;
+      desk = leaves_written P.seen old mid v.page kept others;
+      unused = λ clean. let bad : true ≡ false = sym soiled ∙ clean in absurd (cc);
+      others = λ q other. others.bytes q other;
+      behind = λ o before. subst (λ (u : FramesSeen). IsBehind P.seen o mid u) (sym same) (unwritten_behind P.seen o s old mid v.page soiled kept others fades before);
+    }
 
 pub returns-in-Ok-clause-log : goal.returns-in-Ok-clause-log
 returns-in-Ok-clause-log g c =
-    let keeps = c.in-Ok.ensures.log in
+    let log = c.in-Ok.ensures.log in
     let old = c.args.self.now.state.history in
     let mid = c.write_claimed.new.self.state in
-    let seen = c.write_claimed.new.redo.seen in
+    let was = c.args.redo.now.seen in
+    let is = c.write_claimed.new.redo.seen in
     let a = c.append.ensures.appended in
-    let wrote = c.in-Ok.ensures.lsn in
-    let upto : c.in-Ok.upto ≡ seen.durable = wrote.4 in
+    let upto = c.in-Ok.ensures.answers.upto_is in
+    let same : mid.history ≡ old = ap (λ x. x.state.history) c.in-Ok.ensures.kept in
+    let later = logged_later was is old log.later in
     record {
-      later = keeps.later;
-      opening = keeps.opening;
-      kept = keeps.kept;
-      logged = λ is. subst (λ (h : List Entry). IsLogged seen h) (sym a.history) (omega (arith, upto), keeps.logged is);
-      known = λ is. let known = keeps.known is in let same = ap log_end a.history in omega (arith, known, same);
-      upto = upto_more seen.durable old mid.history c.append.new.self.state.history (next_entry mid c.args.by (kind.Write c.args.victim.page c.in-Ok.lsn c.in-Ok.upto)) upto a.history keeps.upto;
-      mark = keeps.mark;
+      later = log.later;
+      opening = log.opening;
+      kept = λ before. log.kept;
+      logged = λ before. subst (λ (h : List Entry). IsLogged is h) (sym a.history) (omega (arith, upto), subst (λ (h : List Entry). IsLogged is h) (sym same) (later before));
+      known = λ known. let end = log.end in let last = ap log_end a.history in let first = ap log_end same in omega (arith, known, end, last, first);
+      upto = upto_more is.durable old mid.history c.append.new.self.state.history (next_entry mid c.args.by (kind.Write c.args.victim.page c.in-Ok.lsn c.in-Ok.upto)) upto a.history
+          (subst (λ (h : List Entry). AreUpTo is.durable old h) (sym same) (upto_none is.durable old));
+      end = log.end;
+      mark = log.mark;
     }
 
-pub returns-in-Ok-clause-unused : goal.returns-in-Ok-clause-unused
-returns-in-Ok-clause-unused g c = λ clean.
-    let soiled : is_dirty c.args.self.now.state.history c.args.victim.page ≡ true = ap (λ x. is_dirty x.state.history c.args.victim.page) (sym c.self.view_is) ∙ sym c.is_dirty-soiled.ensures ∙ c.if-not-soiled.false in
-    let bad : true ≡ false = sym soiled ∙ clean in
-    absurd (cc)
-
-pub returns-in-Err-clause-unused : goal.returns-in-Err-clause-unused
-returns-in-Err-clause-unused g c = λ clean.
-    let soiled : is_dirty c.args.self.now.state.history c.args.victim.page ≡ true = returns-in-Err-clause-soiled g c in
-    let bad : true ≡ false = sym soiled ∙ clean in
-    absurd (cc)
+pub returns-in-Err-clause-log : goal.returns-in-Err-clause-log
+returns-in-Err-clause-log g c =
+    let log = c.in-Err.ensures.log in
+    let old = c.args.self.now.state.history in
+    let was = c.args.redo.now.seen in
+    let is = c.write_claimed.new.redo.seen in
+    let same : c.write_claimed.new.self.state.history ≡ old = ap (λ x. x.state.history) c.in-Err.ensures.kept in
+    let later = logged_later was is old log.later in
+    record {
+      later = log.later;
+      opening = log.opening;
+      kept = λ before. log.kept;
+      logged = λ before. subst (λ (h : List Entry). IsLogged is h) (sym same) (later before);
+      known = λ known. let end = log.end in let first = ap log_end same in omega (arith, known, end, first);
+      upto = subst (λ (h : List Entry). AreUpTo is.durable old h) (sym same) (upto_none is.durable old);
+      end = log.end;
+      mark = log.mark;
+    }

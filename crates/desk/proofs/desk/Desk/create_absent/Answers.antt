@@ -1,4 +1,4 @@
-use Rattle.std.proofs.Common.{◌≡◌, ◌<◌, ◌≤◌, ◌+◌, ℕ, List, length, refl, ap, ◌∙◌, sym, subst, arith, inl}
+use Rattle.std.proofs.Common.{◌≡◌, ◌<◌, ℕ, List, length, refl, ap, ◌∙◌, sym, subst, arith, inl, inr}
 use Rattle.page_ids.specs.declared.config.Config.{Config}
 use Rattle.redo_mark.specs.Logs as log
 use Rattle.redo_mark.specs.Logs.{Holds}
@@ -9,12 +9,12 @@ use Rattle.frame_words.specs.Appends.{FitsRefusal}
 use Rattle.frame_words.specs.Rows.{Row}
 use Rattle.desk.specs.Answers.{Uncreated}
 use Rattle.desk.specs.Logged.{create_change}
-use Rattle.desk.specs.Moments.{Keeps, moment, moment_of, log_seen}
+use Rattle.desk.specs.Moments.{IsUnderWay, Proceeds, moment, moment_of, log_seen}
 use Rattle.desk.specs.Victims.{IsHad}
 use Rattle.desk.specs.declared.calls.CreateErr.{CreateErr}
 use Rattle.desk.proofs.Creating.{length-create}
 use Rattle.desk.proofs.Loading.{inside_below}
-use Rattle.desk.proofs.Moments.{keeps_none, keeps_most, keeps_on, keeps_log, take_on, places_on, uses_none, uses_more, unhad_created, device_used}
+use Rattle.desk.proofs.Moments.{keeps_ended, keeps_none, keeps_most, keeps_on, keeps_log, take_on, places_on, uses_none, uses_more, adds_of, unhad_created, device_used}
 use Rattle.desk.proofs.PassedWords.{each_some, at_some}
 use Rattle.desk.proofs.desk.Desk.create_absent.Goals as goal
 
@@ -50,6 +50,9 @@ refuse-requires-clause-entries g c = λ κs within.
     let had = c.requires.entries.room in
     record { places = places_on g.D.PageDisk.seen 2 1 _ _ c.have_frame.ensures.keeps c.requires.entries.places; room = omega (arith, room, had) }
 
+pub refuse-requires-clause-hands : goal.refuse-requires-clause-hands
+refuse-requires-clause-hands g c = λ κs within. inr refl
+
 pub refuse-requires-clause-asked : goal.refuse-requires-clause-asked
 refuse-requires-clause-asked g c = λ κs within.
     let t = g.F.Frames.seen c.have_frame.new.frames in
@@ -72,10 +75,10 @@ returns-in_default-clause-keeps g c =
 pub returns-in_default-clause-answers : goal.returns-in_default-clause-answers
 returns-in_default-clause-answers g c = λ held few.
     let m = moment_of g.F.Frames.seen g.R.RedoDisk.seen c.args.self.now c.args.frames.now c.args.redo.now in
-    record { refused = (refl, refl); unused = refl; log = uses_none m; covered = device_used m m.log m.log refl refl (inl refl) }
+    record { refused = (refl, refl); unused = refl; log = uses_none m; as_long = refl; covered = device_used m m.log m.log refl refl (inl refl) }
 
 pub returns-in-Err-clause-keeps : goal.returns-in-Err-clause-keeps
-returns-in-Err-clause-keeps g c = keeps_most g.D.PageDisk.seen 2 3 _ _ (omega arith) c.have_frame.ensures.keeps
+returns-in-Err-clause-keeps g c = keeps_most g.D.PageDisk.seen 2 3 _ _ (omega arith) (keeps_ended g.D.PageDisk.seen 2 _ _ c.args.by c.have_frame.ensures.keeps c.in-Err.ensures.answers.hands)
 
 pub returns-in-Err-clause-answers : goal.returns-in-Err-clause-answers
 returns-in-Err-clause-answers g c = λ held few.
@@ -95,7 +98,7 @@ returns-in-Ok-append-clause-keeps g c =
     let t = g.F.Frames.seen c.have_frame.new.frames in
     let holds : Holds l.seen (record_of (create_change c.args.page) span.start) span.start = subst (λ (d : List ℕ). Holds l.seen (sealed d span.start) span.start) c.in-Ok.ensures put.record in
     keeps_on S 2 1 _ _ _ c.have_frame.ensures.keeps
-    (keeps_on S 0 1 _ (moment old t l) _ (keeps_log S old t _ l c.have_frame.ensures.keeps.rest log.later log.disk.1 log.kept)
+    (keeps_on S 0 1 _ (moment old t l) _ (keeps_log S (IsUnderWay S c.args.by) old t _ l c.have_frame.ensures.keeps.rest log.later log.disk.1 log.kept)
     (c.make.ensures.keeps l holds (omega (arith, put.span.within))))
 
 pub returns-in-Ok-append-clause-answers : goal.returns-in-Ok-append-clause-answers
@@ -107,7 +110,8 @@ returns-in-Ok-append-clause-answers g c = λ held few.
     let rows = (g.F.Frames.seen c.args.frames.now).rows in
     let cleared = (g.F.Frames.seen c.have_frame.new.frames).rows in
     let later = c.have_frame.ensures.keeps.later in
-    let span = c.in-Ok-append.ensures.span in
+    let put = c.in-Ok-append.ensures in
+    let span = put.span in
     let answers = c.in-Ok-have_frame.ensures.answers in
     let mid = log_seen g.R.RedoDisk.seen c.have_frame.new.redo in
     let size : length c.in-Ok.draft ≡ 13 = ap (length {A = ℕ}) c.in-Ok.ensures ∙ length-create c.args.page in
@@ -125,6 +129,7 @@ returns-in-Ok-append-clause-answers g c = λ held few.
       few = few;
       fits = omega (arith, later.end, span.start, span.end, span.within, span.limit, size);
       log = uses_more m (moment had (g.F.Frames.seen c.have_frame.new.frames) mid) n c.args.by _ (λ mark. tt) c.make.ensures.made.entry c.append.ensures.mark answers.sought.log;
+      logged = adds_of m.log mid n.log (create_change c.args.page) c.in-Ok.draft c.in-Ok-append.span.start answers.sought.as_long c.in-Ok.ensures put.exact.0 put.exact.1 put.record;
       covered = device_used m mid n.log (ap (λ (d : g.row.R.Denot). (g.R.RedoDisk.seen d).told) c.append.ensures.disk.0) c.append.ensures.mark answers.sought.covered;
     }
 
@@ -138,7 +143,7 @@ returns-in-Err-append-clause-keeps g c =
     let t = g.F.Frames.seen c.have_frame.new.frames in
     let had = c.have_frame.new.self.state in
     keeps_on S 2 1 m (moment had t (log_seen device c.append.new.self)) _
-    (subst (λ (x : log.State g.row.R.Denot). Keeps S 2 m (moment had t (log_seen device x))) (sym c.in-Err-append.ensures.err) c.have_frame.ensures.keeps)
+    (subst (λ (x : log.State g.row.R.Denot). Proceeds S c.args.by 2 m (moment had t (log_seen device x))) (sym c.in-Err-append.ensures.err) c.have_frame.ensures.keeps)
     (c.refuse.ensures.keeps (log_seen device c.append.new.self) (omega (arith, spent.1, same_end)))
 
 pub returns-in-Err-append-clause-answers : goal.returns-in-Err-append-clause-answers
@@ -174,5 +179,6 @@ returns-in-Err-append-clause-answers g c = λ held few.
       );
       unused = tt;
       log = uses_more m (moment had (g.F.Frames.seen c.have_frame.new.frames) mid) n c.args.by _ (λ mark. tt) r.entry (ap (λ (x : log.State g.row.R.Denot). x.seen.durable) same) answers.sought.log;
+      as_long = ap (λ (x : log.State g.row.R.Denot). x.seen.end) same ∙ answers.sought.as_long;
       covered = device_used m mid n.log (ap (λ (x : log.State g.row.R.Denot). (device x.disk).told) same) (ap (λ (x : log.State g.row.R.Denot). x.seen.durable) same) answers.sought.covered;
     }

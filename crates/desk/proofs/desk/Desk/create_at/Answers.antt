@@ -17,6 +17,7 @@ returns-then-is_err-clause-answers g c =
       refused = (c.reserve_create.ensures.same, refl);
       unused = refl;
       log = subst (λ (d : State g.row.D.Denot). UsesLog m (moment d s l)) (sym c.reserve_create.ensures.same) (uses_none m);
+      as_long = refl;
       covered = device_used m l l refl refl (inl refl);
     }
 

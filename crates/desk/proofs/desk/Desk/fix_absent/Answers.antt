@@ -1,4 +1,4 @@
-use Rattle.std.proofs.Common.{◌≡◌, ◌<◌, ℕ, List, Bool, cond, Some, length, refl, ap, ◌∙◌, sym, subst, arith, inr}
+use Rattle.std.proofs.Common.{◌<◌, ℕ, List, Bool, cond, Some, length, refl, ap, ◌∙◌, sym, subst, arith, inr}
 use Rattle.std.specs.Option.{is_some}
 use Rattle.page_ids.specs.declared.config.Config.{Config}
 use Rattle.trail.specs.declared.event.Entry.{Entry}
@@ -12,7 +12,7 @@ use Rattle.desk.proofs.Behind.{read_none, read_value}
 use Rattle.instance_lists.proofs.Dirt.{same_self}
 use Rattle.desk.proofs.Fixing.{had_value, needs_a_frame, unread_refused, unlogged_load}
 use Rattle.desk.proofs.Loading.{inside_below}
-use Rattle.desk.proofs.Moments.{keeps_most, keeps_on, places_on, take_on, uses_more, uses_one, unhad_fixed}
+use Rattle.desk.proofs.Moments.{keeps_ended, keeps_most, keeps_on, places_on, take_on, uses_more, uses_one, unhad_fixed}
 use Rattle.desk.proofs.desk.Desk.fix_absent.Goals as goal
 
 pub load-requires-clause-entries : goal.load-requires-clause-entries
@@ -62,7 +62,7 @@ grant-requires-clause-fix g c = λ κs within.
     omega (arith, first, next, last)
 
 pub returns-in-Err-clause-keeps : goal.returns-in-Err-clause-keeps
-returns-in-Err-clause-keeps g c = keeps_most g.D.PageDisk.seen 2 4 _ _ (omega arith) c.have_frame.ensures.keeps
+returns-in-Err-clause-keeps g c = keeps_most g.D.PageDisk.seen 2 4 _ _ (omega arith) (keeps_ended g.D.PageDisk.seen 2 _ _ c.args.by c.have_frame.ensures.keeps c.in-Err.ensures.answers.hands)
 
 pub returns-in-Err-clause-answers : goal.returns-in-Err-clause-answers
 returns-in-Err-clause-answers g c = λ held few.
@@ -94,6 +94,7 @@ returns-in-Err-load-clause-answers g c = λ held few.
       refused = unread_refused S m.desk h.desk n.desk m.frames.rows h.frames.rows n.frames.rows by held p c.args.now m.log.seen.durable m.log.seen.faults n.log.seen.faults c.in-Ok.frame e within few
           c.requires.asked.absent keeps.desk.later had.sought.page_told had.had c.in-Err-load.ensures.unmoved un;
       log = uses_one m h n c.load.ensures.more refl had.sought.log;
+      as_long = had.sought.as_long;
       idle = needs_a_frame S m.desk held p c.requires.asked.absent within few had.sought.free;
       covered = had.sought.covered;
       unused = unlogged_load S h.desk n.desk by p c.args.now m.log n.log e un;
@@ -136,6 +137,7 @@ returns-in-Ok-load-clause-answers g c = λ held few.
       inside = within;
       few = few;
       log = uses_more m n _ by _ (λ mark. tt) c.grant.ensures.hit.entry refl (uses_one m h n c.load.ensures.more refl had.sought.log);
+      as_long = had.sought.as_long;
       idle = needs_a_frame S m.desk held p c.requires.asked.absent within few had.sought.free;
       covered = had.sought.covered;
       valued = λ o before.

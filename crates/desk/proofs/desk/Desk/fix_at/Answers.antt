@@ -19,6 +19,7 @@ returns-then-is_err-clause-answers g c =
       unused = refl;
       unsound = λ o bad before is. absurd (cc);
       log = subst (λ (d : State g.row.D.Denot). UsesLog m (moment d s l)) (sym c.reserve_fix.ensures.same) (uses_none m);
+      as_long = refl;
       covered = inl refl;
     }
 

@@ -1,90 +1,125 @@
-use Rattle.std.proofs.Common.{◌≡◌, ◌⊎◌, List, [], sym, subst, arith, inl, inr}
+use Rattle.std.proofs.Common.{◌≤◌, Bool, length, ap, ◌∙◌, sym, subst, arith, inl}
 use Rattle.trail.specs.declared.event.Entry.{Entry}
 use Rattle.trail.specs.Dirt.{dirty}
-use Rattle.desk.specs.Changes.{WritesBack}
-use Rattle.desk.specs.Logged.{IsLogged}
-use Rattle.desk.proofs.Changing.{synced_tied, synced_behind}
-use Rattle.desk.proofs.Cleaning.{fault_wider, writes_count, forced_same, forced_behind}
-use Rattle.desk.proofs.Logging.{logged_later}
+use Rattle.desk.specs.Cleans.{Flushed, Unflushed, NeedsNoLog}
+use Rattle.desk.specs.Moments.{log_seen, moment_of}
+use Rattle.desk.proofs.Flushing.{covered_keeps, synced_keeps, covered_put, synced_put, unflushed_sooner, uncovered, unsynced, flushed_synced, sync_not_needed}
 use Rattle.desk.proofs.desk.Desk.flush.Goals as goal
 
-pub returns-in-Ok-sync-clause-tied : goal.returns-in-Ok-sync-clause-tied
-returns-in-Ok-sync-clause-tied g c =
-    let same = c.sync.ensures.desk in
-    synced_tied g.D.PageDisk.seen (g.F.Frames.seen c.write_back_all.new.frames) c.write_back_all.new.self.state c.sync.new.self.state
-    same.config same.instance c.sync.ensures.history c.sync.ensures.same c.write_back_all.ensures.tied
+pub returns-in-Err-clause-answers : goal.returns-in-Err-clause-answers
+returns-in-Err-clause-answers g c = unflushed_sooner g.D.PageDisk.seen _ _ c.args.by c.args.most c.args.sync c.in-Err.error c.in-Err.ensures.answers
 
-pub returns-in-Ok-sync-clause-behind : goal.returns-in-Ok-sync-clause-behind
-returns-in-Ok-sync-clause-behind g c = λ o before.
-    let same = c.sync.ensures.desk in
-    synced_behind g.D.PageDisk.seen o (g.F.Frames.seen c.write_back_all.new.frames) c.write_back_all.new.self.state c.sync.new.self.state
-    same.config same.instance c.sync.ensures.history c.sync.ensures.same (c.write_back_all.ensures.behind o before)
+pub returns-in-Err-cover_all-clause-keeps : goal.returns-in-Err-cover_all-clause-keeps
+returns-in-Err-cover_all-clause-keeps g c =
+    covered_keeps g.D.PageDisk.seen (length (dirty c.args.self.now.state.history)) _ c.write_back_all.new.self.state (g.F.Frames.seen c.write_back_all.new.frames) _ _ c.write_back_all.ensures.keeps c.cover_all.ensures.log
 
-pub returns-in-Err-sync-clause-tied : goal.returns-in-Err-sync-clause-tied
-returns-in-Err-sync-clause-tied g c =
-    let same = c.sync.ensures.desk in
-    synced_tied g.D.PageDisk.seen (g.F.Frames.seen c.write_back_all.new.frames) c.write_back_all.new.self.state c.sync.new.self.state
-    same.config same.instance c.sync.ensures.history c.sync.ensures.same c.write_back_all.ensures.tied
+pub returns-in-Err-cover_all-clause-left : goal.returns-in-Err-cover_all-clause-left
+returns-in-Err-cover_all-clause-left g c =
+    covered_put g.D.PageDisk.seen _ c.write_back_all.new.self.state (g.F.Frames.seen c.write_back_all.new.frames) _ _ c.args.by c.write_back_all.ensures.left c.cover_all.ensures.log
 
-pub returns-in-Err-sync-clause-behind : goal.returns-in-Err-sync-clause-behind
-returns-in-Err-sync-clause-behind g c = λ o before.
-    let same = c.sync.ensures.desk in
-    synced_behind g.D.PageDisk.seen o (g.F.Frames.seen c.write_back_all.new.frames) c.write_back_all.new.self.state c.sync.new.self.state
-    same.config same.instance c.sync.ensures.history c.sync.ensures.same (c.write_back_all.ensures.behind o before)
+pub returns-in-Err-cover_all-clause-answers : goal.returns-in-Err-cover_all-clause-answers
+returns-in-Err-cover_all-clause-answers g c =
+    let S = g.D.PageDisk.seen in
+    let m = moment_of g.F.Frames.seen g.R.RedoDisk.seen c.args.self.now c.args.frames.now c.args.redo.now in
+    let n = moment_of g.F.Frames.seen g.R.RedoDisk.seen c.write_back_all.new.self c.write_back_all.new.frames c.cover_all.new.redo in
+    subst (λ (sync : Bool). Unflushed S m n c.args.by c.args.most sync c.in-Err-cover_all.error) (sym c.if-not-sync.false)
+    (uncovered S m c.write_back_all.new.self.state (g.F.Frames.seen c.write_back_all.new.frames) (log_seen g.R.RedoDisk.seen c.write_back_all.new.redo) n.log c.args.by c.args.most c.in-Ok.written c.in-Err-cover_all.error
+    c.write_back_all.ensures.keeps c.in-Ok.ensures.answers c.in-Err-cover_all.ensures.fault c.in-Err-cover_all.ensures.forced)
 
-pub returns-in-Err-sync-clause-fault : goal.returns-in-Err-sync-clause-fault
-returns-in-Err-sync-clause-fault g c =
-    let log = c.args.redo.now.seen.faults in
-    let last = c.cover_all.new.redo.seen.faults in
-    fault_wider (g.D.PageDisk.seen c.write_back_all.new.self.state.disk).faults (g.D.PageDisk.seen c.sync.new.self.state.disk).faults log last (g.D.PageDisk.seen c.args.self.now.state.disk).faults log
-    c.in-Err-sync.error c.write_back_all.ensures.desk.later (omega arith) (c.in-Err-sync.ensures.fault log last)
+pub returns-in-Err-cover_all-clause-idle : goal.returns-in-Err-cover_all-clause-idle
+returns-in-Err-cover_all-clause-idle g c = λ none.
+    let m = moment_of g.F.Frames.seen g.R.RedoDisk.seen c.args.self.now c.args.frames.now c.args.redo.now in
+    let whole = sync_not_needed m c.args.most c.args.sync c.if-not-sync.false none in
+    let same = c.write_back_all.ensures.idle (inl whole) in
+    c.cover_all.ensures.idle (subst (λ r. r.seen.end ≤ r.seen.durable) (sym same) whole) ∙ same
 
-pub returns-in-Err-cover_all-clause-fault : goal.returns-in-Err-cover_all-clause-fault
-returns-in-Err-cover_all-clause-fault g c =
-    let was = (g.D.PageDisk.seen c.args.self.now.state.disk).faults in
-    let is = (g.D.PageDisk.seen c.write_back_all.new.self.state.disk).faults in
-    let first = c.args.redo.now.seen.faults in
-    fault_wider was is c.write_back_all.new.redo.seen.faults c.cover_all.new.redo.seen.faults was first c.in-Err-cover_all.error (omega arith) c.write_back_all.ensures.later.faults
-    (c.in-Err-cover_all.ensures.fault was is)
+pub returns-in-Ok-sync-clause-keeps : goal.returns-in-Ok-sync-clause-keeps
+returns-in-Ok-sync-clause-keeps g c =
+    let S = g.D.PageDisk.seen in
+    let few = length (dirty c.args.self.now.state.history) in
+    let mid = c.write_back_all.new.self.state in
+    let t = g.F.Frames.seen c.write_back_all.new.frames in
+    synced_keeps S few _ mid c.sync.new.self.state t _ c.sync.ensures.desk c.sync.ensures.history c.sync.ensures.same
+    (covered_keeps S few _ mid t _ _ c.write_back_all.ensures.keeps c.cover_all.ensures.log)
 
-pub returns-in-Err-cover_all-clause-logged : goal.returns-in-Err-cover_all-clause-logged
-returns-in-Err-cover_all-clause-logged g c = λ before.
-    logged_later c.write_back_all.new.redo.seen c.cover_all.new.redo.seen c.write_back_all.new.self.state.history c.cover_all.ensures.later (c.write_back_all.ensures.logged before)
+pub returns-in-Ok-sync-clause-left : goal.returns-in-Ok-sync-clause-left
+returns-in-Ok-sync-clause-left g c =
+    let S = g.D.PageDisk.seen in
+    let mid = c.write_back_all.new.self.state in
+    let t = g.F.Frames.seen c.write_back_all.new.frames in
+    synced_put S _ mid c.sync.new.self.state t _ c.args.by c.sync.ensures.desk c.sync.ensures.history c.sync.ensures.same
+    (covered_put S _ mid t _ _ c.args.by c.write_back_all.ensures.left c.cover_all.ensures.log)
 
-pub returns-in-Ok-sync-clause-logged : goal.returns-in-Ok-sync-clause-logged
-returns-in-Ok-sync-clause-logged g c = λ before.
-    subst (λ (h : List Entry). IsLogged c.cover_all.new.redo.seen h) (sym c.sync.ensures.history)
-    (logged_later c.write_back_all.new.redo.seen c.cover_all.new.redo.seen c.write_back_all.new.self.state.history c.cover_all.ensures.later (c.write_back_all.ensures.logged before))
+pub returns-in-Ok-sync-clause-answers : goal.returns-in-Ok-sync-clause-answers
+returns-in-Ok-sync-clause-answers g c =
+    let S = g.D.PageDisk.seen in
+    let m = moment_of g.F.Frames.seen g.R.RedoDisk.seen c.args.self.now c.args.frames.now c.args.redo.now in
+    let n = moment_of g.F.Frames.seen g.R.RedoDisk.seen c.sync.new.self c.write_back_all.new.frames c.cover_all.new.redo in
+    subst (λ (sync : Bool). Flushed S m n c.args.by c.args.most sync c.in-Ok.written) (sym c.if-not-sync.false)
+    (flushed_synced S m c.write_back_all.new.self.state c.sync.new.self.state (g.F.Frames.seen c.write_back_all.new.frames) (log_seen g.R.RedoDisk.seen c.write_back_all.new.redo) n.log c.args.by c.args.most c.in-Ok.written
+    c.in-Ok.ensures.answers c.sync.ensures.history c.in-Ok-sync.ensures.synced c.in-Ok-cover_all.ensures.whole)
 
-pub returns-in-Err-sync-clause-logged : goal.returns-in-Err-sync-clause-logged
-returns-in-Err-sync-clause-logged g c = λ before.
-    subst (λ (h : List Entry). IsLogged c.cover_all.new.redo.seen h) (sym c.sync.ensures.history)
-    (logged_later c.write_back_all.new.redo.seen c.cover_all.new.redo.seen c.write_back_all.new.self.state.history c.cover_all.ensures.later (c.write_back_all.ensures.logged before))
+pub returns-in-Ok-sync-clause-idle : goal.returns-in-Ok-sync-clause-idle
+returns-in-Ok-sync-clause-idle g c = λ none.
+    let m = moment_of g.F.Frames.seen g.R.RedoDisk.seen c.args.self.now c.args.frames.now c.args.redo.now in
+    let whole = sync_not_needed m c.args.most c.args.sync c.if-not-sync.false none in
+    let same = c.write_back_all.ensures.idle (inl whole) in
+    c.cover_all.ensures.idle (subst (λ r. r.seen.end ≤ r.seen.durable) (sym same) whole) ∙ same
 
-pub returns-in-Err-clause-err : goal.returns-in-Err-clause-err
-returns-in-Err-clause-err g c =
-    let err = c.in-Err.ensures.err in
-    let old = c.args.self.now.state in
-    let count = writes_count old.config.first c.args.by err.0 old.history c.write_back_all.new.self.state.history err.1 in
-    (err.0, err.1, omega (arith, err.2), omega (arith, err.3), err.4, inl (err.2, omega (arith, err.3, count.0)), err.5)
+pub returns-in-Err-sync-clause-keeps : goal.returns-in-Err-sync-clause-keeps
+returns-in-Err-sync-clause-keeps g c =
+    let S = g.D.PageDisk.seen in
+    let few = length (dirty c.args.self.now.state.history) in
+    let mid = c.write_back_all.new.self.state in
+    let t = g.F.Frames.seen c.write_back_all.new.frames in
+    synced_keeps S few _ mid c.sync.new.self.state t _ c.sync.ensures.desk c.sync.ensures.history c.sync.ensures.same
+    (covered_keeps S few _ mid t _ _ c.write_back_all.ensures.keeps c.cover_all.ensures.log)
 
-pub returns-in-Err-cover_all-clause-err : goal.returns-in-Err-cover_all-clause-err
-returns-in-Err-cover_all-clause-err g c =
-    let ok = c.in-Ok.ensures.ok in
-    let now = c.write_back_all.new.self.state.disk in
-    (c.in-Ok.written, ok.0, ok.1, ok.2, ok.4, inr (c.if-not-sync.false, ok.3), λ none. forced_same c.args.self.now.state.disk now c.in-Err-cover_all.error (c.in-Ok.ensures.idle none).0)
+pub returns-in-Err-sync-clause-left : goal.returns-in-Err-sync-clause-left
+returns-in-Err-sync-clause-left g c =
+    let S = g.D.PageDisk.seen in
+    let mid = c.write_back_all.new.self.state in
+    let t = g.F.Frames.seen c.write_back_all.new.frames in
+    synced_put S _ mid c.sync.new.self.state t _ c.args.by c.sync.ensures.desk c.sync.ensures.history c.sync.ensures.same
+    (covered_put S _ mid t _ _ c.args.by c.write_back_all.ensures.left c.cover_all.ensures.log)
 
-pub returns-in-Err-sync-clause-err : goal.returns-in-Err-sync-clause-err
-returns-in-Err-sync-clause-err g c =
-    let ok = c.in-Ok.ensures.ok in
-    let n = c.in-Ok.written in
-    let old = c.args.self.now.state in
-    let back = sym c.sync.ensures.history in (
-      n,
-      subst (λ (h : List Entry). WritesBack old.config.first c.args.by n old.history h) back ok.0,
-      ok.1,
-      ok.2,
-      omega (arith, ok.4, c.sync.ensures.room),
-      inr (c.if-not-sync.false, subst (λ (h : List Entry). (n ≡ c.args.most) ⊎ (dirty h ≡ [])) back ok.3),
-      λ none. forced_behind old.disk c.write_back_all.new.self.state.disk c.sync.new.self.state.disk c.in-Err-sync.error (c.in-Ok.ensures.idle none).0 (λ no. tt) c.in-Err-sync.ensures.unlogged,
-    )
+pub returns-in-Err-sync-clause-answers : goal.returns-in-Err-sync-clause-answers
+returns-in-Err-sync-clause-answers g c =
+    let S = g.D.PageDisk.seen in
+    let m = moment_of g.F.Frames.seen g.R.RedoDisk.seen c.args.self.now c.args.frames.now c.args.redo.now in
+    let n = moment_of g.F.Frames.seen g.R.RedoDisk.seen c.sync.new.self c.write_back_all.new.frames c.cover_all.new.redo in
+    subst (λ (sync : Bool). Unflushed S m n c.args.by c.args.most sync c.in-Err-sync.error) (sym c.if-not-sync.false)
+    (unsynced S m c.write_back_all.new.self.state c.sync.new.self.state (g.F.Frames.seen c.write_back_all.new.frames) (log_seen g.R.RedoDisk.seen c.write_back_all.new.redo) n.log c.args.by c.args.most c.in-Ok.written c.in-Err-sync.error
+    c.write_back_all.ensures.keeps c.in-Ok.ensures.answers c.sync.ensures.history c.in-Err-sync.ensures.fault c.in-Err-sync.ensures.unlogged)
+
+pub returns-in-Err-sync-clause-idle : goal.returns-in-Err-sync-clause-idle
+returns-in-Err-sync-clause-idle g c = λ none.
+    let m = moment_of g.F.Frames.seen g.R.RedoDisk.seen c.args.self.now c.args.frames.now c.args.redo.now in
+    let whole = sync_not_needed m c.args.most c.args.sync c.if-not-sync.false none in
+    let same = c.write_back_all.ensures.idle (inl whole) in
+    c.cover_all.ensures.idle (subst (λ r. r.seen.end ≤ r.seen.durable) (sym same) whole) ∙ same
+
+pub returns-then-not-sync-clause-answers : goal.returns-then-not-sync-clause-answers
+returns-then-not-sync-clause-answers g c =
+    let m = moment_of g.F.Frames.seen g.R.RedoDisk.seen c.args.self.now c.args.frames.now c.args.redo.now in
+    let n = moment_of g.F.Frames.seen g.R.RedoDisk.seen c.write_back_all.new.self c.write_back_all.new.frames c.write_back_all.new.redo in
+    subst (λ (sync : Bool). Flushed g.D.PageDisk.seen m n c.args.by c.args.most sync c.in-Ok.written) (sym c.if-not-sync.true) c.in-Ok.ensures.answers
+
+pub returns-then-not-sync-clause-idle : goal.returns-then-not-sync-clause-idle
+returns-then-not-sync-clause-idle g c = λ none.
+    let m = moment_of g.F.Frames.seen g.R.RedoDisk.seen c.args.self.now c.args.frames.now c.args.redo.now in
+    c.write_back_all.ensures.idle (subst (λ (sync : Bool). NeedsNoLog m c.args.most sync) c.if-not-sync.true none)
+
+pub returns-in-Ok-sync-clause-room : goal.returns-in-Ok-sync-clause-room
+returns-in-Ok-sync-clause-room g c =
+    let was = c.write_back_all.ensures.room in
+    let room = c.sync.ensures.room in
+    let same = ap (length {A = Entry}) c.sync.ensures.history in
+    omega (arith, was, room, same)
+
+pub returns-in-Err-sync-clause-room : goal.returns-in-Err-sync-clause-room
+returns-in-Err-sync-clause-room g c =
+    let was = c.write_back_all.ensures.room in
+    let room = c.sync.ensures.room in
+    let same = ap (length {A = Entry}) c.sync.ensures.history in
+    omega (arith, was, room, same)

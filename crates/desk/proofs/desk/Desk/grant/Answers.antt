@@ -1,9 +1,11 @@
-use Rattle.std.proofs.Common.{◌≡◌, ap}
+use Rattle.std.proofs.Common.{◌≡◌, [], ◌∷◌, refl, ap, sym, subst}
 use Rattle.trail.specs.declared.event.Kind.TheVariants as kind
 use Rattle.frame_words.specs.Appends.{appended}
 use Rattle.frame_words.specs.Seen.{FramesSeen}
+use Rattle.desk.specs.Moments.{Follows}
 use Rattle.desk.specs.Steps.{next_entry}
 use Rattle.desk.proofs.Fixing.{settled_held}
+use Rattle.desk.proofs.Hands.{hands_on}
 use Rattle.desk.proofs.Loading.{visiting, behind_on, behind_fixed}
 use Rattle.desk.proofs.Moments.{keeps_entry}
 use Rattle.desk.proofs.Tying.{below_rows, granted, tied_on, tied_fixed}
@@ -28,7 +30,8 @@ returns-clause-keeps g c = λ l.
       tied = tied_on P.seen old new c.args.by k t _ a.appended a.disk is
           (tied_fixed P.seen old.config old.instance old.history old.disk s c.args.by c.args.page f clock c.args.now w (below_rows P.seen s old f tied c.requires.below) tied);
       settled = settled_held s.rows t.rows f (ap (λ (x : FramesSeen). x.rows) is) c.requires.rest.settled;
+      hands = hands_on old new c.args.by k a.appended (λ b. refl) c.requires.rest.hands;
     })
-    (ap (λ (x : FramesSeen). x.base) is)
+    (subst (Follows (next_entry old c.args.by k ∷ []) s) (sym is) (record { turn = refl; opened = refl; history = refl; base = refl }))
     (λ o based before. behind_on P.seen o old new c.args.by k t _ a.appended a.disk is
     (behind_fixed P.seen o old.config old.instance old.history old.disk s c.args.by c.args.page f clock c.args.now w before))

@@ -1,8 +1,10 @@
-use Rattle.std.proofs.Common.{◌≡◌, ap, sym, subst}
+use Rattle.std.proofs.Common.{ap, sym, subst}
 use Rattle.frame_words.specs.Seen.{FramesSeen}
 use Rattle.trail.specs.declared.event.Kind.TheVariants as kind
 use Rattle.desk.specs.Victims.{AreSettled}
 use Rattle.desk.proofs.Asking.{may_refuse, no_words}
+use Rattle.desk.proofs.Coming.{follows_one}
+use Rattle.desk.proofs.Hands.{hands_refused}
 use Rattle.desk.proofs.Loading.{behind_on, behind_refused}
 use Rattle.desk.proofs.Moments.{keeps_entry}
 use Rattle.desk.proofs.Tying.{tied_on, tied_refused}
@@ -34,6 +36,7 @@ returns-clause-keeps g c = λ l logged.
     (record {
       tied = tied_on P.seen old new c.args.by k t _ a.appended a.disk a.seen (tied_refused P.seen old.config old.instance old.history old.disk s c.args.by c.args.call c.args.cause c.requires.rest.tied);
       settled = subst AreSettled (sym (ap (λ (u : FramesSeen). u.rows) a.seen)) c.requires.rest.settled;
+      hands = hands_refused old new c.args.by c.args.call c.args.cause a.appended c.requires.rest.hand c.requires.hands;
     })
-    (ap (λ (u : FramesSeen). u.base) a.seen)
+    (follows_one s t _ a.seen)
     (λ o based before. behind_on P.seen o old new c.args.by k t _ a.appended a.disk a.seen (behind_refused P.seen o old.config old.instance old.history old.disk s c.args.by c.args.call c.args.cause before))

@@ -10,8 +10,10 @@ use Rattle.desk.specs.Moments.{moment}
 use Rattle.desk.specs.Victims.{IsFull, AreSettled}
 use Rattle.desk.proofs.Asking.{asked_ours}
 use Rattle.desk.proofs.Claims.{history_of, may_append, published_tied, refused_tied, refused_behind}
+use Rattle.desk.proofs.Coming.{follows_one}
 use Rattle.desk.proofs.Finding.{all_are, full_is}
 use Rattle.desk.proofs.Evicting.{refused_absent}
+use Rattle.desk.proofs.Hands.{hands_refused}
 use Rattle.desk.proofs.Moments.{keeps_entry, keeps_none, keeps_most, uses_none, uses_refused}
 use Rattle.desk.proofs.PassedWords.{each_some, at_some}
 use Rattle.desk.proofs.Values.{behind_frames}
@@ -42,8 +44,8 @@ returns-clause-keeps g c = λ l.
     let rows = ap (λ (u : FramesSeen). u.rows) a.seen in
     let base = ap (λ (u : FramesSeen). u.base) a.seen in
     keeps_entry S old new s t l c.args.by (kind.Refused c.args.call why) a.appended a.disk tt (λ known. known)
-    (record { tied = refused_tied S s t old new c.args.by c.args.call why c.requires.rest.tied a.appended a.disk a.seen; settled = subst AreSettled (sym rows) c.requires.rest.settled })
-    base (λ o based before. behind_frames S o new s t rows base (refused_behind S o s old new c.args.by c.args.call why a.appended a.disk before))
+    (record { tied = refused_tied S s t old new c.args.by c.args.call why c.requires.rest.tied a.appended a.disk a.seen; settled = subst AreSettled (sym rows) c.requires.rest.settled; hands = hands_refused old new c.args.by c.args.call why a.appended (inl c.requires.rest.hands) (inl c.requires.rest.hands) })
+    (follows_one s t _ a.seen) (λ o based before. behind_frames S o new s t rows base (refused_behind S o s old new c.args.by c.args.call why a.appended a.disk before))
 
 pub returns-clause-answers : goal.returns-clause-answers
 returns-clause-answers g c = λ l.
@@ -66,6 +68,7 @@ returns-clause-answers g c = λ l.
         free = λ some. refl;
         covered = inl refl;
         log = uses_refused (moment old s l) (moment new t l) c.args.by c.args.call why a.appended refl;
+        as_long = refl;
         behind = λ o before. behind_frames S o new s t rows (ap (λ (u : FramesSeen). u.base) a.seen) (refused_behind S o s old new c.args.by c.args.call why a.appended a.disk before);
       };
       refused = (
@@ -75,6 +78,7 @@ returns-clause-answers g c = λ l.
       );
       unmoved = rows;
       unforced = refl;
+      hands = hands_refused old new c.args.by c.args.call why a.appended (inl c.requires.rest.hands) (inl c.requires.rest.hands);
     }
 
 pub returns-in_default-clause-keeps : goal.returns-in_default-clause-keeps
@@ -82,8 +86,9 @@ returns-in_default-clause-keeps g c = λ l. keeps_most g.D.PageDisk.seen 0 1 _ _
 
 pub returns-in_default-clause-answers : goal.returns-in_default-clause-answers
 returns-in_default-clause-answers g c = λ l. record {
-  sought = record { absent = c.requires.asked.absent; page_told = refl; free = λ some. refl; covered = inl refl; log = uses_none _; behind = λ o before. before };
+  sought = record { absent = c.requires.asked.absent; page_told = refl; free = λ some. refl; covered = inl refl; log = uses_none _; as_long = refl; behind = λ o before. before };
   refused = refl;
   unmoved = refl;
   unforced = refl;
+  hands = c.requires.rest.hands;
 }

@@ -15,5 +15,5 @@ publish-requires g c =
       may = subst (λ n. MayPublish (g.F.Frames.seen c.append.new.frames) c.args.frame c.args.page n) (sym place)
           (subst (λ (x : FramesSeen). MayPublish x c.args.frame c.args.page (mark old.config.first old.history + 1)) (sym c.append.ensures.seen)
           (may_show g.D.PageDisk.seen old.config old.instance old.history old.disk s c.args.by c.args.page c.args.frame c.args.span.start c.args.span.end c.args.now
-          c.requires.below c.requires.vacant early c.requires.image c.requires.tied));
+          c.requires.next.below c.requires.next.vacant early c.requires.image c.requires.tied));
     }

@@ -1,166 +1,144 @@
-use Rattle.std.proofs.Common.{◌≡◌, ◌<◌, ◌+◌, [], ℕ, List, length, refl, ap, sym, subst, ◌∙◌, rules, arith, inl, inr}
+use Rattle.std.proofs.Common.{◌≡◌, ◌<◌, ◌≤◌, ◌+◌, ◌⊎◌, [], length, refl, ap, ◌∙◌, rules, arith, inr}
 use Rattle.page_ids.specs.declared.config.Config.{Config}
 use Rattle.trail.specs.declared.event.Dirty.{Dirty}
-use Rattle.trail.specs.declared.event.Entry.{Entry}
 use Rattle.trail.specs.Dirt.{dirty}
-use Rattle.desk.specs.Changes.{WritesBack, IsWriteBack, AreMarked}
-use Rattle.desk.proofs.Cleaning.{marked_none, marked_on, writes_more, writes_count, later_same, later_on, leaves_same, leaves_on, fault_wider, forced_behind}
+use Rattle.desk.specs.Moments.{moment_of}
 use Rattle.desk.proofs.Changing.{alone_rows}
+use Rattle.desk.proofs.Cleaning.{writes_count}
+use Rattle.desk.proofs.Flushing.{first_is, written_none, written_more, written_all, written_full, unwritten_next, written_few, not_needed, next_not_needed, one_more, durable_next}
+use Rattle.desk.proofs.Moments.{keeps_most, keeps_on}
 use Rattle.desk.proofs.desk.Desk.write_back_all.Goals as goal
 
 pub loop-written-init : goal.loop-written-init
 loop-written-init g c = record {
-  writes = refl;
-  marked = marked_none c.args.redo.now.seen.durable c.args.redo.now.seen.end c.args.self.now.state.history;
-  end = refl;
-  unused = λ none. (refl, refl);
+  written = written_none g.D.PageDisk.seen (moment_of g.F.Frames.seen g.R.RedoDisk.seen c.args.self.now c.args.frames.now c.args.redo.now) c.args.by c.requires.ready.rest c.requires.ready.turn;
   room = omega arith;
-  leaves = leaves_same g.D.PageDisk.seen c.args.self.now.state;
-  rows = refl;
-  tied = c.requires.tied;
-  turn = c.requires.turn;
-  logged = λ x. x;
-  known = c.requires.known;
-  later = later_same c.args.redo.now.seen;
-  opening = refl;
-  kept = λ x. x;
-  behind = λ o x. x;
+  idle = λ none. refl;
 }
 
-pub write_back-requires-clause-places : goal.write_back-requires-clause-places
-write_back-requires-clause-places g c κs within =
-    let old = c.args.self.now.state.history in
-    let now = c.loop-written.self.state.history in
-    let count = writes_count c.args.self.now.state.config.first c.args.by c.loop-written.written old now c.loop-written.invariant.writes in
-    let some = ap (length {A = Dirty}) c.in-Some.ensures.some.1 in
-    let first : c.loop-written.self.state.config.first ≡ c.args.self.now.state.config.first = ap (λ (x : Config). x.first) c.loop-written.invariant.leaves.config in
-    omega (arith, count.0, count.1, some, first, c.requires.places)
-
-pub write_back-requires-clause-room : goal.write_back-requires-clause-room
-write_back-requires-clause-room g c κs within =
-    let old = c.args.self.now.state.history in
-    let now = c.loop-written.self.state.history in
+pub write_back-requires-clause-entries : goal.write_back-requires-clause-entries
+write_back-requires-clause-entries g c κs within =
     let n = c.loop-written.written in
-    let count = writes_count c.args.self.now.state.config.first c.args.by n old now c.loop-written.invariant.writes in
+    let inv = c.loop-written.invariant in
+    let old = c.args.self.now.state in
+    let count = writes_count old.config.first c.args.by n old.history c.loop-written.self.state.history inv.written.writes in
     let some = ap (length {A = Dirty}) c.in-Some.ensures.some.1 in
+    let first : c.loop-written.self.state.config.first ≡ old.config.first = ap (λ (x : Config). x.first) inv.written.keeps.desk.config in
+    let places = c.requires.entries.places in
+    let room = inv.room in
     let below : n < c.args.most = search rules in
-    let one = c.requires.room (n + 1) (omega (arith, below)) (omega (arith, count.0, some)) in
-    omega (arith, one, c.loop-written.invariant.room)
+    let one = c.requires.entries.room (n + 1) (omega (arith, below)) (omega (arith, count.0, some)) in
+    record { places = omega (arith, count.0, count.1, some, first, places); room = omega (arith, one, room, count.1) }
 
-pub write_back-requires-clause-known : goal.write_back-requires-clause-known
-write_back-requires-clause-known g c κs within = (c.in-Some.ensures.logged, c.loop-written.invariant.known)
+pub write_back-requires-clause-ready : goal.write_back-requires-clause-ready
+write_back-requires-clause-ready g c κs within =
+    let inv = c.loop-written.invariant.written in
+    record { rest = inv.keeps.rest; turn = inv.put.turn; known = inv.keeps.known c.requires.ready.known }
 
 pub write_back-requires-clause-alone : goal.write_back-requires-clause-alone
 write_back-requires-clause-alone g c κs within =
-    alone_rows (g.F.Frames.seen c.args.frames.now) (g.F.Frames.seen c.loop-written.frames) c.loop-written.invariant.rows c.requires.alone
+    alone_rows (g.F.Frames.seen c.args.frames.now) (g.F.Frames.seen c.loop-written.frames) c.loop-written.invariant.written.put.unmoved c.requires.alone
 
-pub returns-in-Err-clause-err : goal.returns-in-Err-clause-err
-returns-in-Err-clause-err g c =
-    let old = c.args.self.now.state.history in
-    let now = c.loop-written.self.state.history in
+pub write_back-requires-clause-first : goal.write_back-requires-clause-first
+write_back-requires-clause-first g c κs within = first_is c.loop-written.self.state.history _ c.in-Some.ensures.some c.in-Some.ensures.resident c.in-Some.ensures.logged
+
+pub returns-in-Err-clause-keeps : goal.returns-in-Err-clause-keeps
+returns-in-Err-clause-keeps g c =
+    let S = g.D.PageDisk.seen in
     let n = c.loop-written.written in
-    let first = c.args.self.now.state.config.first in
-    let count = writes_count first c.args.by n old now c.loop-written.invariant.writes in
+    let inv = c.loop-written.invariant.written in
+    let few = written_few S _ _ c.args.by n inv in
     let some = ap (length {A = Dirty}) c.in-Some.ensures.some.1 in
-    let below : n < c.args.most = search rules in
-    let W : List Entry → Type 0 = λ h. WritesBack first c.args.by n old h in (
-      n,
-      subst W (sym c.in-Err.ensures.err) c.loop-written.invariant.writes,
-      below,
-      omega (arith, count.0, some),
-      omega (arith, c.in-Err.ensures.unused, c.loop-written.invariant.room),
-      λ none. forced_behind c.args.self.now.state.disk c.loop-written.self.state.disk c.write_back.new.self.state.disk c.in-Err.error (c.loop-written.invariant.unused none).0 (λ lt. tt) c.in-Err.ensures.forced,
-    )
+    keeps_most S (n + 1) (length (dirty c.args.self.now.state.history)) _ _ (omega (arith, few, some)) (keeps_on S n 1 _ _ _ inv.keeps c.write_back.ensures.keeps)
 
-pub returns-in-Err-clause-upto : goal.returns-in-Err-clause-upto
-returns-in-Err-clause-upto g c =
-    let mark = c.loop-written.redo.seen.durable in
-    let M : List Entry → Type 0 = λ h. AreMarked c.args.redo.now.seen.durable c.args.redo.now.seen.end mark c.args.self.now.state.history h in
-    (mark, subst M (sym c.in-Err.ensures.err) c.loop-written.invariant.marked)
+pub returns-in-Err-clause-answers : goal.returns-in-Err-clause-answers
+returns-in-Err-clause-answers g c =
+    let below : c.loop-written.written < c.args.most = search rules in
+    unwritten_next g.D.PageDisk.seen _ _ _ c.args.by c.args.most c.loop-written.written _ c.in-Err.error c.loop-written.invariant.written below (first_is c.loop-written.self.state.history _ c.in-Some.ensures.some c.in-Some.ensures.resident c.in-Some.ensures.logged) c.in-Err.ensures.answers
 
-pub returns-in-Err-clause-fault : goal.returns-in-Err-clause-fault
-returns-in-Err-clause-fault g c =
-    fault_wider (g.D.PageDisk.seen c.loop-written.self.state.disk).faults (g.D.PageDisk.seen c.write_back.new.self.state.disk).faults c.loop-written.redo.seen.faults c.write_back.new.redo.seen.faults
-    (g.D.PageDisk.seen c.args.self.now.state.disk).faults c.args.redo.now.seen.faults c.in-Err.error c.loop-written.invariant.leaves.later c.loop-written.invariant.later.faults c.in-Err.ensures.fault
+pub returns-in-Err-clause-left : goal.returns-in-Err-clause-left
+returns-in-Err-clause-left g c =
+    let was = c.loop-written.invariant.written.put in
+    let is = c.write_back.ensures.left in
+    record { unmoved = is.unmoved ∙ was.unmoved; turn = is.turn; end = is.end ∙ was.end; behind = λ o before. is.behind o (was.behind o before) }
 
-pub returns-in-Err-clause-desk : goal.returns-in-Err-clause-desk
-returns-in-Err-clause-desk g c = leaves_on g.D.PageDisk.seen c.args.self.now.state c.loop-written.self.state c.write_back.new.self.state c.loop-written.invariant.leaves c.write_back.ensures.desk
+pub returns-in-Err-clause-room : goal.returns-in-Err-clause-room
+returns-in-Err-clause-room g c =
+    let was = c.loop-written.invariant.room in
+    let is = c.write_back.ensures.room in
+    omega (arith, was, is)
 
-pub returns-in-Err-clause-logged : goal.returns-in-Err-clause-logged
-returns-in-Err-clause-logged g c = λ before. c.write_back.ensures.logged (c.loop-written.invariant.logged before)
-
-pub returns-in-Err-clause-later : goal.returns-in-Err-clause-later
-returns-in-Err-clause-later g c = later_on c.args.redo.now.seen c.loop-written.redo.seen c.write_back.new.redo.seen c.loop-written.invariant.later c.write_back.ensures.later
-
-pub returns-in-Err-clause-opening : goal.returns-in-Err-clause-opening
-returns-in-Err-clause-opening g c = c.write_back.ensures.opening ∙ c.loop-written.invariant.opening
-
-pub returns-in-Err-clause-behind : goal.returns-in-Err-clause-behind
-returns-in-Err-clause-behind g c = λ o before. c.write_back.ensures.behind o (c.loop-written.invariant.behind o before)
-
-pub returns-in_default-clause-ok : goal.returns-in_default-clause-ok
-returns-in_default-clause-ok g c =
-    let old = c.args.self.now.state.history in
+pub returns-in-Err-clause-idle : goal.returns-in-Err-clause-idle
+returns-in-Err-clause-idle g c = λ none.
+    let S = g.D.PageDisk.seen in
     let n = c.loop-written.written in
-    let count = writes_count c.args.self.now.state.config.first c.args.by n old c.loop-written.self.state.history c.loop-written.invariant.writes in
+    let inv = c.loop-written.invariant in
+    let below : n < c.args.most = search rules in
+    let first = first_is c.loop-written.self.state.history _ c.in-Some.ensures.some c.in-Some.ensures.resident c.in-Some.ensures.logged in
+    let whole = next_not_needed S _ _ c.args.by c.args.most n _ inv.written below first none in
+    c.write_back.ensures.idle (durable_next S _ _ c.args.by n _ inv.written first c.requires.ready.known whole) ∙ inv.idle (inr whole)
+
+pub returns-in_default-clause-keeps : goal.returns-in_default-clause-keeps
+returns-in_default-clause-keeps g c =
+    let S = g.D.PageDisk.seen in
+    let n = c.loop-written.written in
+    let inv = c.loop-written.invariant.written in
+    let few = written_few S _ _ c.args.by n inv in
+    keeps_most S n (length (dirty c.args.self.now.state.history)) _ _ (omega (arith, few)) inv.keeps
+
+pub returns-in_default-clause-answers : goal.returns-in_default-clause-answers
+returns-in_default-clause-answers g c =
+    let n = c.loop-written.written in
     let below : n < c.args.most = search rules in
     let clean : dirty c.loop-written.self.state.history ≡ [] = c.first_dirty.ensures.none (search rules) in
-    (c.loop-written.invariant.writes, omega (arith, below), omega (arith, count.0), inr clean, c.loop-written.invariant.room)
+    written_all g.D.PageDisk.seen _ _ c.args.by c.args.most n c.loop-written.invariant.written (omega (arith, below)) (inr clean)
 
-pub returns-in_default-clause-upto : goal.returns-in_default-clause-upto
-returns-in_default-clause-upto g c = (c.loop-written.redo.seen.durable, c.loop-written.invariant.marked)
+pub returns-in_default-clause-left : goal.returns-in_default-clause-left
+returns-in_default-clause-left g c = c.loop-written.invariant.written.put
+
+pub returns-in_default-clause-idle : goal.returns-in_default-clause-idle
+returns-in_default-clause-idle g c = λ none.
+    let n = c.loop-written.written in
+    let below : n < c.args.most = search rules in
+    let inv = c.loop-written.invariant in
+    inv.idle (not_needed g.D.PageDisk.seen _ _ c.args.by c.args.most n inv.written (omega (arith, below)) none)
 
 pub loop-written-preserved : goal.loop-written-preserved
 loop-written-preserved g c =
-    let old = c.args.self.now.state.history in
-    let mid = c.loop-written.self.state.history in
-    let new = c.write_back.new.self.state.history in
-    let first = c.args.self.now.state.config.first in
-    let config : c.loop-written.self.state.config.first ≡ first = ap (λ (x : Config). x.first) c.loop-written.invariant.leaves.config in
-    let W : ℕ → Type 0 = λ n. IsWriteBack n c.args.by mid new in
-    let wrote : IsWriteBack first c.args.by mid new = subst W config c.in-Ok.ensures.ok in
-    let M : ℕ → Type 0 = λ n. AreMarked c.loop-written.redo.seen.durable n c.write_back.new.redo.seen.durable mid new in
+    let S = g.D.PageDisk.seen in
+    let n = c.loop-written.written in
+    let inv = c.loop-written.invariant in
+    let was = inv.room in
+    let is = c.write_back.ensures.room in
+    let first = first_is c.loop-written.self.state.history _ c.in-Some.ensures.some c.in-Some.ensures.resident c.in-Some.ensures.logged in
     record {
-      marked = marked_on c.args.redo.now.seen.durable c.args.redo.now.seen.end c.loop-written.redo.seen.durable c.write_back.new.redo.seen.durable old mid new c.loop-written.invariant.marked
-          (subst M c.loop-written.invariant.end c.in-Ok.ensures.upto);
-      end = c.write_back.ensures.end ∙ c.loop-written.invariant.end;
-      writes = writes_more first c.args.by c.loop-written.written old mid new c.loop-written.invariant.writes wrote;
-      unused = λ none. absurd (omega (arith, none));
-      room = omega (arith, c.loop-written.invariant.room, c.write_back.ensures.room);
-      leaves = leaves_on g.D.PageDisk.seen c.args.self.now.state c.loop-written.self.state c.write_back.new.self.state c.loop-written.invariant.leaves c.write_back.ensures.desk;
-      rows = c.write_back.ensures.rows ∙ c.loop-written.invariant.rows;
-      tied = c.write_back.ensures.tied;
-      turn = c.write_back.ensures.turn;
-      logged = λ before. c.write_back.ensures.logged (c.loop-written.invariant.logged before);
-      known = c.write_back.ensures.known;
-      later = later_on c.args.redo.now.seen c.loop-written.redo.seen c.write_back.new.redo.seen c.loop-written.invariant.later c.write_back.ensures.later;
-      opening = c.write_back.ensures.opening ∙ c.loop-written.invariant.opening;
-      kept = λ before. c.write_back.ensures.kept;
-      behind = λ o before. c.write_back.ensures.behind o (c.loop-written.invariant.behind o before);
+      written = written_more S _ _ _ c.args.by n inv.written c.write_back.ensures.keeps c.write_back.ensures.left c.in-Ok.ensures.answers;
+      room = omega (arith, was, is);
+      idle = λ (none : (n + 1 ≡ 0) ⊎ (c.args.redo.now.seen.end ≤ c.args.redo.now.seen.durable)).
+          let whole = one_more n none in
+          c.write_back.ensures.idle (durable_next S _ _ c.args.by n _ inv.written first c.requires.ready.known whole) ∙ inv.idle (inr whole);
     }
 
-pub returns-clause-ok : goal.returns-clause-ok
-returns-clause-ok g c =
-    let old = c.args.self.now.state.history in
+pub returns-clause-keeps : goal.returns-clause-keeps
+returns-clause-keeps g c =
+    let S = g.D.PageDisk.seen in
+    let n = c.loop-written.written in
+    let inv = c.loop-written.invariant.written in
+    let few = written_few S _ _ c.args.by n inv in
+    keeps_most S n (length (dirty c.args.self.now.state.history)) _ _ (omega (arith, few)) inv.keeps
+
+pub returns-clause-answers : goal.returns-clause-answers
+returns-clause-answers g c =
     let n = c.loop-written.written in
     let all : n ≡ c.args.most = search rules in
-    let count = writes_count c.args.self.now.state.config.first c.args.by n old c.loop-written.self.state.history c.loop-written.invariant.writes in
-    let W : ℕ → Type 0 = λ m. WritesBack c.args.self.now.state.config.first c.args.by m old c.loop-written.self.state.history in
-    (subst W all c.loop-written.invariant.writes, omega arith, omega (arith, count.0, all), inl refl, omega (arith, c.loop-written.invariant.room, all))
+    written_full g.D.PageDisk.seen _ _ c.args.by c.args.most n c.loop-written.invariant.written all
 
-pub returns-clause-upto : goal.returns-clause-upto
-returns-clause-upto g c = (c.loop-written.redo.seen.durable, c.loop-written.invariant.marked)
-
-pub returns-clause-desk : goal.returns-clause-desk
-returns-clause-desk g c = c.loop-written.invariant.leaves
-
-pub returns-clause-logged : goal.returns-clause-logged
-returns-clause-logged g c = c.loop-written.invariant.logged
-
-pub returns-in_default-clause-idle : goal.returns-in_default-clause-idle
-returns-in_default-clause-idle g c = c.loop-written.invariant.unused
+pub returns-clause-left : goal.returns-clause-left
+returns-clause-left g c = c.loop-written.invariant.written.put
 
 pub returns-clause-idle : goal.returns-clause-idle
 returns-clause-idle g c = λ none.
-    let all : c.loop-written.written ≡ c.args.most = search rules in
-    c.loop-written.invariant.unused (all ∙ none)
+    let n = c.loop-written.written in
+    let all : n ≡ c.args.most = search rules in
+    let inv = c.loop-written.invariant in
+    inv.idle (not_needed g.D.PageDisk.seen _ _ c.args.by c.args.most n inv.written (omega (arith, all)) none)

@@ -1,18 +1,19 @@
-use Rattle.std.proofs.Common.{◌≡◌, ◌≤◌, Option, Some, IfOk, IfErr, ap, ◌∙◌, sym, subst, arith, inl, inr, ⊎_elim}
+use Rattle.std.proofs.Common.{◌≡◌, Option, length, ap, ◌∙◌, sym, subst, arith, rules, inl, inr, ⊎_elim}
+use Rattle.std.specs.Prelude.{MatchResult}
+use Rattle.page_disk.specs.Disks.{IsInside}
 use Rattle.std.proofs.lemmas.Bool.{cases_lt}
 use Rattle.page_ids.specs.Content.{Content}
-use Rattle.trail.specs.declared.event.Dirty.{Dirty}
 use Rattle.trail.specs.Dirt.{dirty, dirt_of}
 use Rattle.frame_words.specs.Rows.{laid_row, lifted_row}
 use Rattle.frame_words.specs.Seen.{FramesSeen, row_at, with_row}
-use Rattle.desk.specs.Changes.{IsForced}
-use Rattle.desk.specs.Claimed.{KeepsLog}
+use Rattle.desk.specs.Changes.{IsImageTold}
+use Rattle.desk.specs.Claimed.{WroteClaimed, UnwroteClaimed}
+use Rattle.desk.specs.Moments.{log_seen}
 use Rattle.desk.specs.Tied.{OnTold}
-use Rattle.desk.specs.Victims.{IsAhead}
+use Rattle.desk.specs.Writing.{Unwritten}
 use Rattle.desk.proofs.Claims.{some_is, laid_back}
 use Rattle.desk.proofs.Evicting.{forced_on}
 use Rattle.desk.proofs.Fixing.{still_inside}
-use Rattle.desk.proofs.Logging.{logged_later, upto_none}
 use Rattle.desk.proofs.desk.Desk.write_claimed.Goals as goal
 use Rattle.desk.proofs.desk.Desk.write_claimed.Goals.{in-Ok, in-Err}
 
@@ -25,15 +26,17 @@ invariant_of-self g c =
       λ p f here. still_inside g.D.PageDisk.seen c.self.inside.disk c.write_page-written.new.disk p told.others.spaces_are (was.2 p f here),
     )
 
-pub write_page-written-requires-clause-known : goal.write_page-written-requires-clause-known
-write_page-written-requires-clause-known g c =
+pub write_page-written-requires-clause-may : goal.write_page-written-requires-clause-may
+write_page-written-requires-clause-may g c κs within =
     let but = c.requires.but in
     let d = some_is (dirt_of (dirty c.args.self.now.state.history) c.args.victim.page) c.requires.dirty in
     let same : c.lift-image.result ≡ but.content = subst (λ (i : Option (Option Content)). OnTold i (λ x. c.lift-image.result ≡ x)) but.image c.lift-image.ensures.image in
     let lsn : but.content.lsn ≡ d.0.newest = subst (λ (i : Option (Option Content)). OnTold i (λ x. x.lsn ≡ d.0.newest)) but.image (but.stamped c.args.victim.page c.args.victim.frame d.0 but.housed d.1) in
     let first = ap (λ (x : Content). x.lsn) same in
     let logged = c.requires.logged d.0 d.1 in
-    omega (arith, first, lsn, logged)
+    let inside : IsInside (g.D.PageDisk.seen c.self.inside.disk).spaces c.args.victim.page = search rules in
+    let sized : length c.lift-image.result.bytes ≡ (g.D.PageDisk.seen c.self.inside.disk).size = search rules in
+    record { inside = inside; sized = sized; buffer_is = c.self.invariant.1 ∙ sym c.self.invariant.0; known = omega (arith, first, lsn, logged) }
 
 pub returns-clause-seen : goal.returns-clause-seen
 returns-clause-seen g c =
@@ -50,34 +53,48 @@ returns-clause-seen g c =
     ∙ ap (λ (x : Content). with_row up f (laid_row (row_at up f) x)) same
     ∙ laid_back s f but.content (omega (arith, below, whole)) but.image
 
-pub returns-clause-lsn : goal.returns-clause-lsn
-returns-clause-lsn g c =
+pub returns-clause-answers : goal.returns-clause-answers
+returns-clause-answers g c =
+    let S = g.D.PageDisk.seen in
     let but = c.requires.but in
     let p = c.args.victim.page in
-    let ds = dirty c.args.self.now.state.history in
-    let d = some_is (dirt_of ds p) c.requires.dirty in
+    let h = c.args.self.now.state.history in
+    let was = c.args.self.now.state in
+    let now = c.write_page-written.new.disk in
+    let log = c.args.redo.now.seen in
+    let after = c.write_page-written.new.redo.seen in
+    let later = c.write_page-written.ensures.log.later.durable in
+    let image = (row_at (g.F.Frames.seen c.args.frames.now) c.args.victim.frame).image in
+    let d = some_is (dirt_of (dirty h) p) c.requires.dirty in
     let same : c.lift-image.result ≡ but.content = subst (λ (i : Option (Option Content)). OnTold i (λ x. c.lift-image.result ≡ x)) but.image c.lift-image.ensures.image in
     let lsn : but.content.lsn ≡ d.0.newest = subst (λ (i : Option (Option Content)). OnTold i (λ x. x.lsn ≡ d.0.newest)) but.image (but.stamped p c.args.victim.frame d.0 but.housed d.1) in
     let is : c.lift-image.result.lsn ≡ d.0.newest = ap (λ (x : Content). x.lsn) same ∙ lsn in
     elim c.match-written.branch [
-      | in-Ok w ↦ subst (λ r. IfOk r (λ x. (y : Dirty) × (dirt_of ds p ≡ Some y) × (x.0 ≡ y.newest) × (y.newest ≤ x.1) × (x.1 ≡ c.write_page-written.new.redo.seen.durable))) (sym w.result-is)
-          (let ok = w.in-Ok.ensures.ok in (d.0, d.1, c.lsn-lsn.ensures ∙ is, omega (arith, ok.0, is), ok.1))
-      | in-Err w ↦ subst (λ r. IfOk r (λ x. (y : Dirty) × (dirt_of ds p ≡ Some y) × (x.0 ≡ y.newest) × (y.newest ≤ x.1) × (x.1 ≡ c.write_page-written.new.redo.seen.durable))) (sym w.result-is) tt
+      | in-Ok w ↦
+          let ok = w.in-Ok.ensures.answers in
+          let covered = ok.covered in
+          let wrote : WroteClaimed (S was.disk) (S now) after h image p (c.lsn-lsn.result, w.in-Ok.upto) = record {
+            dirt = d.0;
+            was_dirty = d.1;
+            lsn_is = c.lsn-lsn.ensures ∙ is;
+            covered = omega (arith, covered, is);
+            upto_is = ok.upto_is;
+            told = λ content there.
+                let it : c.lift-image.result ≡ content = subst (λ (i : Option (Option Content)). OnTold i (λ x. c.lift-image.result ≡ x)) there c.lift-image.ensures.image in
+                subst (λ (x : Content). IsImageTold p x (S was.disk) (S now)) it
+                (subst (λ x. IsImageTold p c.lift-image.result (S x.state.disk) (S now)) c.self.view_is ok.told);
+          } in
+          subst (λ r. MatchResult r (λ x. WroteClaimed (S was.disk) (S now) after h image p x) (λ e. UnwroteClaimed S was now log after p e)) (sym w.result-is) wrote
+      | in-Err w ↦
+          let e = w.in-Err.error in
+          let failed = subst (λ x. Unwritten S x.state.disk now (log_seen g.R.RedoDisk.seen c.args.redo.now) (log_seen g.R.RedoDisk.seen c.write_page-written.new.redo) p c.lift-image.result e) c.self.view_is w.in-Err.ensures.answers in
+          let unwrote : UnwroteClaimed S was now log after p e = record {
+            fades = failed.fades;
+            fault = failed.fault;
+            forced = forced_on was.disk now e (λ lt. record { dirt = d.0; was_dirty = d.1; behind = omega (arith, lt, later, is) }) failed.forced;
+          } in
+          subst (λ r. MatchResult r (λ x. WroteClaimed (S was.disk) (S now) after h image p x) (λ x. UnwroteClaimed S was now log after p x)) (sym w.result-is) unwrote
     ]
-
-pub returns-clause-log : goal.returns-clause-log
-returns-clause-log g c =
-    let h = c.self.inside.lists.history in
-    let told = c.write_page-written.ensures in
-    subst (λ x. KeepsLog g.R.RedoDisk.seen c.args.redo.now c.write_page-written.new.redo x.state.history h) c.self.view_is (record {
-      later = told.later;
-      opening = told.opening;
-      kept = λ was. told.kept;
-      logged = logged_later c.args.redo.now.seen c.write_page-written.new.redo.seen h told.later;
-      known = λ was. let end = told.later.end in omega (arith, was, end);
-      upto = upto_none c.write_page-written.new.redo.seen.durable h;
-      mark = told.marks;
-    })
 
 pub returns-clause-covered : goal.returns-clause-covered
 returns-clause-covered g c =
@@ -89,22 +106,3 @@ returns-clause-covered g c =
     let lsn : but.content.lsn ≡ d.0.newest = subst (λ (i : Option (Option Content)). OnTold i (λ x. x.lsn ≡ d.0.newest)) but.image (but.stamped p c.args.victim.frame d.0 but.housed d.1) in
     let is : c.lift-image.result.lsn ≡ d.0.newest = ap (λ (x : Content). x.lsn) same ∙ lsn in
     ⊎_elim (λ lt. inr (record { dirt = d.0; was_dirty = d.1; behind = omega (arith, lt, is) })) (λ le. inl (c.write_page-written.ensures.idle le)) (cases_lt c.args.redo.now.seen.durable c.lift-image.result.lsn)
-
-pub returns-clause-forced : goal.returns-clause-forced
-returns-clause-forced g c =
-    let but = c.requires.but in
-    let p = c.args.victim.page in
-    let h = c.args.self.now.state.history in
-    let mark = c.args.redo.now.seen.durable in
-    let was = c.args.self.now.state.disk in
-    let now = c.write_page-written.new.disk in
-    let d = some_is (dirt_of (dirty h) p) c.requires.dirty in
-    let same : c.lift-image.result ≡ but.content = subst (λ (i : Option (Option Content)). OnTold i (λ x. c.lift-image.result ≡ x)) but.image c.lift-image.ensures.image in
-    let lsn : but.content.lsn ≡ d.0.newest = subst (λ (i : Option (Option Content)). OnTold i (λ x. x.lsn ≡ d.0.newest)) but.image (but.stamped p c.args.victim.frame d.0 but.housed d.1) in
-    let is : c.lift-image.result.lsn ≡ d.0.newest = ap (λ (x : Content). x.lsn) same ∙ lsn in
-    elim c.match-written.branch [
-      | in-Ok w ↦ subst (λ r. IfErr r (λ e. IsForced was now (IsAhead h p mark) e)) (sym w.result-is) tt
-      | in-Err w ↦ subst (λ r. IfErr r (λ e. IsForced was now (IsAhead h p mark) e)) (sym w.result-is)
-          (subst (λ x. IsForced x.state.disk now (IsAhead h p mark) w.in-Err.error) c.self.view_is
-          (forced_on c.self.inside.disk now w.in-Err.error (λ lt. record { dirt = d.0; was_dirty = d.1; behind = omega (arith, lt, is) }) w.in-Err.ensures.forced))
-    ]

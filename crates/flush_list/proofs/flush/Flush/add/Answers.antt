@@ -16,17 +16,14 @@ pub returns : goal.returns
 returns c =
     let a = c.self.inside in
     let v = c.args.self.now in
-    let f = c.args.frame in
     let os = a.oldest.items in
-    let os' = set os f c.args.oldest in
-    let xs = a.list.items in
-    let new = is_new a v c.self.view_is f c.requires.new in
-    let node : Node = record { frame = f; oldest = c.args.oldest } in
-    let l = ap (λ (l : IndexList). l.items) c.push_front.ensures in
+    let os' = set os c.args.frame c.args.oldest in
+    let new = is_new a v c.self.view_is c.args.frame c.requires.new in
+    let node : Node = record { frame = c.args.frame; oldest = c.args.oldest } in
     seen v os' c.push_front.new.self _ (ap (λ (l : IndexList). l.room) c.push_front.ensures ∙ room_is a v c.self.view_is)
-    (ap (map (node_of os')) l
-    ∙ ap (λ (y : Node). y ∷ map (node_of os') xs) (new_node os f c.args.oldest (omega (arith, new.room, c.self.invariant.room)))
-    ∙ ap (λ ys. node ∷ ys) (same_nodes os f c.args.oldest xs new.away ∙ listed_is a v c.self.view_is))
+    (ap (λ (l : IndexList). map (node_of os') l.items) c.push_front.ensures
+    ∙ ap (λ (y : Node). y ∷ map (node_of os') a.list.items) (new_node os c.args.frame c.args.oldest (omega (arith, new.room, c.self.invariant.room)))
+    ∙ ap (λ ys. node ∷ ys) (same_nodes os c.args.frame c.args.oldest a.list.items new.away ∙ listed_is a v c.self.view_is))
 
 pub invariant_of-self : goal.invariant_of-self
 invariant_of-self c =

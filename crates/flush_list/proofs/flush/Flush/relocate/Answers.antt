@@ -27,23 +27,21 @@ pub returns : goal.returns
 returns c =
     let a = c.self.inside in
     let v = c.args.self.now in
-    let old = c.args.old in
-    let new = c.args.new in
     let os = a.oldest.items in
-    let there = is_in a v c.self.view_is old c.requires.listed in
-    let fresh = is_new a v c.self.view_is new c.requires.new in
+    let there = is_in a v c.self.view_is c.args.old c.requires.listed in
+    let fresh = is_new a v c.self.view_is c.args.new c.requires.new in
     let order = c.stands_in_order.ensures in
-    let t = placed old a.list.items there in
-    let once = subst (λ (xs : List ℕ). times old xs ≤ 1) t.2 (order.once old) in
-    let out = ap (times new) (sym t.2) ∙ fresh.away in
+    let t = placed c.args.old a.list.items there in
+    let once = subst (λ (xs : List ℕ). times c.args.old xs ≤ 1) t.2 (order.once c.args.old) in
+    let out = ap (times c.args.new) (sym t.2) ∙ fresh.away in
     let is = c.replace.ensures t.0 t.1 t.2 in
     let oldest = c.index-oldest.result.now in
-    let read = c.index-oldest.ensures ∙ get_or_default os old oldest 0 (omega (arith, order.below old there, c.self.invariant.room)) in
-    seen v (set os new oldest) c.replace.new.self _ (ap (λ (l : IndexList). l.room) is ∙ room_is a v c.self.view_is)
-    (ap (λ (l : IndexList). map (node_of (set os new oldest)) l.items) is
-    ∙ replaced os old new oldest t.0 t.1 once out (omega (arith, fresh.room, c.self.invariant.room)) read
-    ∙ ap (λ xs. relocated old new (map (node_of os) xs)) (sym t.2)
-    ∙ ap (relocated old new) (listed_is a v c.self.view_is))
+    let read = c.index-oldest.ensures ∙ get_or_default os c.args.old oldest 0 (omega (arith, order.below c.args.old there, c.self.invariant.room)) in
+    seen v (set os c.args.new oldest) c.replace.new.self _ (ap (λ (l : IndexList). l.room) is ∙ room_is a v c.self.view_is)
+    (ap (λ (l : IndexList). map (node_of (set os c.args.new oldest)) l.items) is
+    ∙ replaced os c.args.old c.args.new oldest t.0 t.1 once out (omega (arith, fresh.room, c.self.invariant.room)) read
+    ∙ ap (λ xs. relocated c.args.old c.args.new (map (node_of os) xs)) (sym t.2)
+    ∙ ap (relocated c.args.old c.args.new) (listed_is a v c.self.view_is))
 
 pub invariant_of-self : goal.invariant_of-self
 invariant_of-self c =

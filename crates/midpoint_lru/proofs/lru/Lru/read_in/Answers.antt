@@ -1,12 +1,11 @@
 use Rattle.std.proofs.Common.{◌≡◌, ◌∙◌, ◌-◌, ◌<◌, ◌==◌, ℕ, cond, None, length, sym, ap, subst, arith}
 use Rattle.std.specs.Prelude.{insert}
-use Rattle.page_ids.specs.Midpoint.{Listed, place_of, old_length, read_in}
+use Rattle.page_ids.specs.Midpoint.{Listed, place_of, read_in}
 use Rattle.midpoint_lru.specs.View.{View}
 use Rattle.midpoint_lru.specs.Parts.{Parts}
-use Rattle.midpoint_lru.specs.Inside.{view_of, AreFrames}
-use Rattle.page_ids.proofs.midpoint.Order.{length-read_in}
+use Rattle.midpoint_lru.specs.Inside.{AreFrames}
 use Rattle.midpoint_lru.proofs.Frames.{frames-read_in}
-use Rattle.midpoint_lru.proofs.Rules.{frames_of, room_is, evicts_is, seen}
+use Rattle.midpoint_lru.proofs.Rules.{frames_of, room_is, evicts_is, seen, exact_settled}
 use Rattle.midpoint_lru.proofs.lru.Lru.read_in.Goals as goal
 
 pub put_between-requires : goal.put_between-requires
@@ -32,16 +31,9 @@ returns c =
     (subst (λ (w : View). c.settle.new.self.listed ≡ (read_in w.numbers c.args.frame w.order).listed) c.self.view_is listed) (evicts_is a v c.self.view_is) room
 
 pub invariant_of-self : goal.invariant_of-self
-invariant_of-self c =
-    let a = c.self.inside in
-    let v = c.args.self.now in
-    let frames = frames_of a v c.self.view_is c.self.invariant in
-    let settled = c.settle.ensures in
-    let exact = ap (λ (q : Parts). q.old_len) settled ∙ c.old_length-old.ensures.old a.time
-    ∙ ap (old_length (view_of a).numbers) (c.len.ensures.len ∙ ap (λ (q : Parts). length q.listed) (sym settled)) in
-    let len = length-read_in v.numbers c.args.frame v.order in record {
-      percent = c.self.invariant.percent;
-      counted = c.self.invariant.counted;
-      exact = exact;
-      frames = subst AreFrames (sym (returns c)) (frames-read_in v c.args.frame frames c.requires);
-    }
+invariant_of-self c = record {
+  percent = c.self.invariant.percent;
+  counted = c.self.invariant.counted;
+  exact = exact_settled c.self.inside c.settle.new.self c.put_between.new.self _ _ c.settle.ensures c.old_length-old.ensures.old c.len.ensures.len;
+  frames = subst AreFrames (sym (returns c)) (frames-read_in c.args.self.now c.args.frame (frames_of c.self.inside c.args.self.now c.self.view_is c.self.invariant) c.requires);
+}

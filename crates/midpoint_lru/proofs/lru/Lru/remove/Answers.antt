@@ -1,11 +1,10 @@
-use Rattle.std.proofs.Common.{◌≡◌, ◌∙◌, ◌+◌, ◌==◌, ℕ, length, sym, ap, subst, arith}
-use Rattle.page_ids.specs.Midpoint.{old_length, evict}
+use Rattle.std.proofs.Common.{◌≡◌, ◌∙◌, ◌+◌, ◌==◌, ℕ, sym, ap, subst, arith}
+use Rattle.page_ids.specs.Midpoint.{evict}
 use Rattle.midpoint_lru.specs.View.{View}
 use Rattle.midpoint_lru.specs.Parts.{Parts}
-use Rattle.midpoint_lru.specs.Inside.{view_of, AreFrames}
-use Rattle.page_ids.proofs.midpoint.Order.{length-evict}
+use Rattle.midpoint_lru.specs.Inside.{AreFrames}
 use Rattle.midpoint_lru.proofs.Frames.{frames-evict}
-use Rattle.midpoint_lru.proofs.Rules.{frames_of, evicts_is, seen}
+use Rattle.midpoint_lru.proofs.Rules.{frames_of, evicts_is, seen, exact_settled}
 use Rattle.midpoint_lru.proofs.lru.Lru.remove.Goals as goal
 
 pub returns : goal.returns
@@ -19,16 +18,9 @@ returns c =
     (subst (λ (w : View). c.settle.new.self.listed ≡ (evict ◌==◌ c.args.frame w.order).listed) c.self.view_is listed) (ap {B = ℕ} (λ n. n + 1) (evicts_is a v c.self.view_is)) room
 
 pub invariant_of-self : goal.invariant_of-self
-invariant_of-self c =
-    let a = c.self.inside in
-    let v = c.args.self.now in
-    let frames = frames_of a v c.self.view_is c.self.invariant in
-    let settled = c.settle.ensures in
-    let exact = ap (λ (q : Parts). q.old_len) settled ∙ c.old_length-old.ensures.old a.time
-    ∙ ap (old_length (view_of a).numbers) (c.len.ensures.len ∙ ap (λ (q : Parts). length q.listed) (sym settled)) in
-    let len = length-evict ◌==◌ c.args.frame v.order c.requires.listed in record {
-      percent = c.self.invariant.percent;
-      counted = omega (arith, c.requires.few, evicts_is a v c.self.view_is);
-      exact = exact;
-      frames = subst AreFrames (sym (returns c)) (frames-evict v c.args.frame frames c.requires.listed);
-    }
+invariant_of-self c = record {
+  percent = c.self.invariant.percent;
+  counted = omega (arith, c.requires.few, evicts_is c.self.inside c.args.self.now c.self.view_is);
+  exact = exact_settled c.self.inside c.settle.new.self c.take.new.self _ _ c.settle.ensures c.old_length-old.ensures.old c.len.ensures.len;
+  frames = subst AreFrames (sym (returns c)) (frames-evict c.args.self.now c.args.frame (frames_of c.self.inside c.args.self.now c.self.view_is c.self.invariant) c.requires.listed);
+}

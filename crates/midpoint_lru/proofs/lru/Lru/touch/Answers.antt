@@ -1,29 +1,25 @@
 use Rattle.std.proofs.Common.{◌≡◌, ◌∙◌, ◌<◌, ◌==◌, ◌∷◌, ℕ, true, false, cond, Some, length, sym, ap, subst, arith, unwrap_or}
 use Rattle.std.specs.Prelude.{remove, slice_get, slice_set}
-use Rattle.page_ids.specs.Midpoint.{Listed, place_of, old_length, touch}
+use Rattle.page_ids.specs.Midpoint.{Listed, place_of, touch}
 use Rattle.midpoint_lru.specs.View.{View}
 use Rattle.midpoint_lru.specs.Parts.{Parts}
 use Rattle.midpoint_lru.specs.Inside.{view_of, AreFrames}
-use Rattle.std.proofs.lemmas.List.Edits.{length-remove}
 use Rattle.page_ids.proofs.midpoint.Order.{length-touch}
 use Rattle.midpoint_lru.specs.declared.lru.Touch.{Touch}
 use Rattle.midpoint_lru.specs.declared.lru.Touch.TheVariants.{Stayed, Young}
+use Rattle.midpoint_lru.specs.Sublists.{listed_as}
 use Rattle.midpoint_lru.proofs.Frames.{frames-touch, below_there, out_after}
-use Rattle.midpoint_lru.proofs.Rules.{frames_of, is_in, evicts_is, seen, young_is, touched_is}
+use Rattle.midpoint_lru.proofs.Rules.{frames_of, is_in, evicts_is, seen, exact_settled, exact_still, young_is, touched_is}
 use Rattle.midpoint_lru.proofs.lru.Lru.touch.Goals as goal
 
 pub put_first-requires : goal.put_first-requires
 put_first-requires c =
     let a = c.self.inside in
-    let v = view_of a in
-    let f = c.args.frame in
-    let k = c.self.invariant in
-    let there = is_in a c.args.self.now c.self.view_is f c.requires in
-    let room = ap (λ (q : Parts). q.room) c.take.ensures in
-    let listed = ap (λ (q : Parts). q.listed) c.take.ensures in
-    let len = length-remove a.parts.listed (place_of ◌==◌ f a.parts.listed) there in record {
-      room = omega (arith, room, below_there v f k.frames there);
-      away = λ l. out_after v f k.frames there (subst (λ xs. place_of ◌==◌ f xs < length xs) listed l);
+    let there = is_in a c.args.self.now c.self.view_is c.args.frame c.requires in
+    record {
+      room = omega (arith, ap (λ (q : Parts). q.room) c.take.ensures, below_there (view_of a) c.args.frame c.self.invariant.frames there);
+      away = λ l. out_after (view_of a) c.args.frame c.self.invariant.frames there
+          (subst (λ xs. place_of ◌==◌ c.args.frame xs < length xs) (ap (λ (q : Parts). q.listed) c.take.ensures) l);
     }
 
 -- a touch that moves the frame
@@ -32,7 +28,7 @@ returns-then-moves-clause-order c =
     let a = c.self.inside in
     let v = c.args.self.now in
     let f = c.args.frame in
-    let x : Listed ℕ = record { key = f; first = c.judge-moves.result.0.first; since = c.judge-moves.result.0.since } in
+    let x = listed_as f c.judge-moves.result.0 in
     let listed_of = λ (q : Parts). q.listed in
     let room_of = λ (q : Parts). q.room in
     let node = λ (first since : ℕ). let y : Listed ℕ = record { key = f; first = Some first; since = since } in y in
@@ -47,54 +43,45 @@ returns-then-moves-clause-order c =
 
 pub returns-then-moves-clause-answer : goal.returns-then-moves-clause-answer
 returns-then-moves-clause-answer c =
-    let x : Listed ℕ = record { key = c.args.frame; first = c.judge-moves.result.0.first; since = c.judge-moves.result.0.since } in
+    let x = listed_as c.args.frame c.judge-moves.result.0 in
     sym (ap (λ b. cond {A = Touch} b Young Stayed) (young_is c.args.self.now c.args.frame c.args.now x c.judge-moves.ensures.found true (sym c.if-moves.true ∙ c.judge-moves.ensures.moves)))
 
 -- and one that doesn't
 pub returns-else-moves-clause-order : goal.returns-else-moves-clause-order
 returns-else-moves-clause-order c =
-    let a = c.self.inside in
     let v = c.args.self.now in
     let f = c.args.frame in
-    let x : Listed ℕ = record { key = f; first = c.judge-moves.result.0.first; since = c.judge-moves.result.0.since } in
+    let x = listed_as f c.judge-moves.result.0 in
     let found = subst (λ (w : View). slice_get w.order.listed (place_of ◌==◌ f w.order.listed) ≡ Some x) (sym c.self.view_is) c.judge-moves.ensures.found in
     let wrote = c.set_first.ensures x found in
     let node = λ (first : ℕ). let y : Listed ℕ = record { key = f; first = Some first; since = x.since } in y in
-    let listed = ap (λ (q : Parts). q.listed) wrote ∙ ap (λ n. slice_set a.parts.listed (place_of ◌==◌ f a.parts.listed) (node n)) c.unwrap_or.ensures in
+    let listed = ap (λ (q : Parts). q.listed) wrote ∙ ap (λ n. slice_set c.self.inside.parts.listed (place_of ◌==◌ f c.self.inside.parts.listed) (node n)) c.unwrap_or.ensures in
     let stayed = subst (λ (w : View). c.set_first.new.self.listed ≡ slice_set w.order.listed (place_of ◌==◌ f w.order.listed) (node (unwrap_or x.first c.args.now))) c.self.view_is listed in
-    seen a v c.self.view_is c.set_first.new.self a.evicts (touch ◌==◌ v.numbers f c.args.now v.order)
-    (stayed ∙ sym (touched_is v f c.args.now x c.judge-moves.ensures.found false (sym c.if-moves.false ∙ c.judge-moves.ensures.moves))) (evicts_is a v c.self.view_is) (ap (λ (q : Parts). q.room) wrote)
+    seen c.self.inside v c.self.view_is c.set_first.new.self c.self.inside.evicts (touch ◌==◌ v.numbers f c.args.now v.order)
+    (stayed ∙ sym (touched_is v f c.args.now x c.judge-moves.ensures.found false (sym c.if-moves.false ∙ c.judge-moves.ensures.moves))) (evicts_is c.self.inside v c.self.view_is) (ap (λ (q : Parts). q.room) wrote)
 
 pub returns-else-moves-clause-answer : goal.returns-else-moves-clause-answer
 returns-else-moves-clause-answer c =
-    let x : Listed ℕ = record { key = c.args.frame; first = c.judge-moves.result.0.first; since = c.judge-moves.result.0.since } in
+    let x = listed_as c.args.frame c.judge-moves.result.0 in
     sym (ap (λ b. cond {A = Touch} b Young Stayed) (young_is c.args.self.now c.args.frame c.args.now x c.judge-moves.ensures.found false (sym c.if-moves.false ∙ c.judge-moves.ensures.moves)))
 
 pub invariant_of-self : goal.invariant_of-self
-invariant_of-self c =
-    let a = c.self.inside in
-    let v = c.args.self.now in
-    let is = returns-then-moves-clause-order c in
-    let settled = c.settle.ensures in
-    let exact = ap (λ (q : Parts). q.old_len) settled ∙ c.old_length-old.ensures.old a.time
-    ∙ ap (old_length (view_of a).numbers) (c.len.ensures.len ∙ ap (λ (q : Parts). length q.listed) (sym settled)) in
-    let len = length-touch ◌==◌ v.numbers c.args.frame c.args.now v.order in record {
-      percent = c.self.invariant.percent;
-      counted = c.self.invariant.counted;
-      exact = exact;
-      frames = subst AreFrames (sym is) (frames-touch v c.args.frame c.args.now (frames_of a v c.self.view_is c.self.invariant));
-    }
+invariant_of-self c = record {
+  percent = c.self.invariant.percent;
+  counted = c.self.invariant.counted;
+  exact = exact_settled c.self.inside c.settle.new.self c.put_first.new.self _ _ c.settle.ensures c.old_length-old.ensures.old c.len.ensures.len;
+  frames = subst AreFrames (sym (returns-then-moves-clause-order c)) (frames-touch c.args.self.now c.args.frame c.args.now (frames_of c.self.inside c.args.self.now c.self.view_is c.self.invariant));
+}
 
 pub invariant_of-self-else-moves : goal.invariant_of-self-else-moves
 invariant_of-self-else-moves c =
-    let a = c.self.inside in
     let v = c.args.self.now in
-    let x : Listed ℕ = record { key = c.args.frame; first = c.judge-moves.result.0.first; since = c.judge-moves.result.0.since } in
     let is = returns-else-moves-clause-order c in
-    let len = length-touch ◌==◌ v.numbers c.args.frame c.args.now v.order in
-    let same = ap (λ (w : View). length w.order.listed) is ∙ len ∙ ap (λ (w : View). length w.order.listed) (sym c.self.view_is) in record {
+    let found = subst (λ (w : View). slice_get w.order.listed (place_of ◌==◌ c.args.frame w.order.listed) ≡ Some (listed_as c.args.frame c.judge-moves.result.0)) (sym c.self.view_is) c.judge-moves.ensures.found in
+    let same = ap (λ (w : View). length w.order.listed) is ∙ length-touch ◌==◌ v.numbers c.args.frame c.args.now v.order ∙ ap (λ (w : View). length w.order.listed) (sym c.self.view_is) in
+    record {
       percent = c.self.invariant.percent;
       counted = c.self.invariant.counted;
-      exact = ap (λ (q : Parts). q.old_len) (c.set_first.ensures x (subst (λ (w : View). slice_get w.order.listed (place_of ◌==◌ c.args.frame w.order.listed) ≡ Some x) (sym c.self.view_is) c.judge-moves.ensures.found)) ∙ c.self.invariant.exact ∙ ap (old_length (view_of a).numbers) (sym same);
-      frames = subst AreFrames (sym is) (frames-touch v c.args.frame c.args.now (frames_of a v c.self.view_is c.self.invariant));
+      exact = exact_still c.self.inside c.set_first.new.self c.self.invariant (ap (λ (q : Parts). q.old_len) (c.set_first.ensures _ found)) same;
+      frames = subst AreFrames (sym is) (frames-touch v c.args.frame c.args.now (frames_of c.self.inside v c.self.view_is c.self.invariant));
     }

@@ -12,18 +12,15 @@ left : (c : goal.After-self-in-Some-2-1) → let m : Member = record c.index-mem
     Leaves c.self.inside.list (set c.self.inside.members.items c.in-Some.frame m) c.next-self-inside.result c.args.self.now.listed (c.self.inside.old_len - 1)
 left c =
     let a = c.self.inside in
-    let p = c.args.self.now in
     let k = c.self.invariant in
     let f = c.in-Some.frame in
-    let ms = a.members.items in
-    let x = c.index-member.result.now in
-    let m : Member = record x { is_old = false } in
+    let m : Member = record c.index-member.result.now { is_old = false } in
     let starts : k.old ≡ f ∷ drop 1 k.old = first_is k.old f (sym k.are.first ∙ c.in-Some.is) in
     let whole = k.are.whole.is ∙ ap (λ ys. k.young ++ ys) starts in
     let l = k.are.there f (omega (arith, ap (λ ys. times f (k.young ++ ys)) starts, times-append f k.young (f ∷ drop 1 k.old), times_at f (drop 1 k.old))) in
-    let read = c.index-member.ensures ∙ get_or_default ms f x blank l in
-    subst (λ ys. Leaves a.list (set ms f m) c.next-self-inside.result ys (a.old_len - 1)) (list_is a p c.self.view_is k)
-    (narrower a.list ms a.first_old k.young k.old k.are f m a.old_len l k.share (drop 1 k.old) c.next-self-inside.result starts
+    let read = c.index-member.ensures ∙ get_or_default a.members.items f c.index-member.result.now blank l in
+    subst (λ ys. Leaves a.list (set a.members.items f m) c.next-self-inside.result ys (a.old_len - 1)) (list_is a c.args.self.now c.self.view_is k)
+    (narrower a.list a.members.items a.first_old k.young k.old k.are f m a.old_len l k.share (drop 1 k.old) c.next-self-inside.result starts
     (c.next-self-inside.ensures k.young (drop 1 k.old) whole) (ap (λ (y : Member). y.first) read) (ap (λ (y : Member). y.since) read) refl)
 
 pub returns : goal.returns

@@ -1,11 +1,10 @@
-use Rattle.std.proofs.Common.{◌∙◌, ◌++◌, ◌∷◌, ℕ, false, set, refl, sym, ap, subst, arith}
+use Rattle.std.proofs.Common.{◌∙◌, ◌++◌, ◌∷◌, ℕ, false, set, refl, ap, subst, arith}
 use Rattle.std.proofs.lemmas.List.{length-set}
 use Rattle.link_lists.specs.IndexLists.{IndexList}
 use Rattle.page_ids.specs.Midpoint.{Listed}
 use Rattle.midpoint_lru.specs.declared.sublists.Member.{Member}
-use Rattle.midpoint_lru.specs.Parts.{Parts}
 use Rattle.midpoint_lru.proofs.Steps.{Leaves, with_first, in_list}
-use Rattle.midpoint_lru.proofs.Kept.{list_is, room_is, old_is, is_out, is_new, seen, kept}
+use Rattle.midpoint_lru.proofs.Kept.{list_is, room_is, is_out, is_new, seen_still, kept}
 use Rattle.midpoint_lru.proofs.sublists.Sublists.put_first.Goals as goal
 
 pub push_front-requires : goal.push_front-requires
@@ -27,12 +26,7 @@ left c =
     (with_first a.list c.push_front.new.self ms a.first_old k.young k.old k.are f m a.old_len (omega (arith, c.requires.room, room_is a p c.self.view_is k, k.room)) (is_out a p c.self.view_is k f c.requires.away) refl k.share whole)
 
 pub returns : goal.returns
-returns c =
-    let a = c.self.inside in
-    let p = c.args.self.now in
-    let k = c.self.invariant in
-    seen _ _ _ _ a.old_len p.room (left c) (ap (λ (l : IndexList). l.room) c.push_front.ensures ∙ sym (room_is a p c.self.view_is k))
-    ∙ ap (λ n. let w : Parts = record { listed = record { key = c.args.frame; first = c.args.first; since = c.args.since } ∷ p.listed; old_len = n; room = p.room } in w) (sym (old_is a p c.self.view_is k))
+returns c = seen_still c.self.inside c.args.self.now c.self.view_is _ _ _ _ (left c) (ap (λ (l : IndexList). l.room) c.push_front.ensures)
 
 pub invariant_of-self : goal.invariant_of-self
 invariant_of-self c = kept _ _ _ _ _ (left c) (omega (arith, c.self.invariant.room, ap (λ (l : IndexList). l.room) c.push_front.ensures, length-set c.self.inside.members.items c.args.frame (record { first = c.args.first; since = c.args.since; is_old = false })))

@@ -8,7 +8,7 @@ use Rattle.page_ids.specs.Midpoint.{Listed}
 use Rattle.midpoint_lru.specs.declared.sublists.Member.{Member}
 use Rattle.midpoint_lru.specs.Parts.{Parts}
 use Rattle.midpoint_lru.proofs.Steps.{Leaves, with_between, in_list}
-use Rattle.midpoint_lru.proofs.Kept.{list_is, room_is, old_is, is_out, is_new, seen, kept}
+use Rattle.midpoint_lru.proofs.Kept.{list_is, room_is, old_is, is_out, is_new, seen_still, kept}
 use Rattle.midpoint_lru.proofs.sublists.Sublists.put_last_young.Goals as goal
 
 pub insert_before-requires-clause-present : goal.insert_before-requires-clause-present
@@ -45,11 +45,9 @@ room_left c =
 
 pub returns : goal.returns
 returns c =
-    let a = c.self.inside in
     let p = c.args.self.now in
-    let k = c.self.invariant in
-    seen _ _ _ _ a.old_len p.room (left c) (room_left c ∙ sym (room_is a p c.self.view_is k))
-    ∙ ap (λ n. let w : Parts = record { listed = insert p.listed (length p.listed - n) (record { key = c.args.frame; first = None; since = c.args.since }); old_len = n; room = p.room } in w) (sym (old_is a p c.self.view_is k))
+    seen_still c.self.inside c.args.self.now c.self.view_is _ _ _ _ (left c) (room_left c)
+    ∙ ap (λ n. let w : Parts = record p { listed = insert p.listed (length p.listed - n) (record { key = c.args.frame; first = None; since = c.args.since }) } in w) (sym (old_is c.self.inside c.args.self.now c.self.view_is c.self.invariant))
 
 pub invariant_of-self : goal.invariant_of-self
 invariant_of-self c = kept _ _ _ _ _ (left c) (omega (arith, c.self.invariant.room, room_left c, length-set c.self.inside.members.items c.args.frame (record { first = None; since = c.args.since; is_old = false })))

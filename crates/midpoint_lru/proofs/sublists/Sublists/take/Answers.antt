@@ -1,20 +1,12 @@
-use Rattle.std.proofs.Common.{◌≡◌, ◌∙◌, ◌==◌, ◌-◌, ◌++◌, ℕ, Bool, false, true, cond, not, nat_lt, refl, sym, ap, subst, arith}
+use Rattle.std.proofs.Common.{◌≡◌, ◌∙◌, ◌==◌, ◌-◌, ◌++◌, ℕ, Bool, false, true, cond, not, nat_lt, sym, ap, subst, arith}
 use Rattle.std.specs.Prelude.{remove}
-use Rattle.std.proofs.lemmas.List.{get_or_default}
 use Rattle.link_lists.specs.IndexLists.{IndexList}
 use Rattle.link_lists.proofs.Times.{placed}
 use Rattle.page_ids.specs.Midpoint.{place_of}
-use Rattle.midpoint_lru.specs.declared.sublists.Member.{Member}
 use Rattle.midpoint_lru.specs.Parts.{Parts, young, old_without}
-use Rattle.midpoint_lru.specs.Sublists.{member_of}
-use mir.Val.{bool_byte}
-use Rattle.midpoint_lru.proofs.Steps.{Leaves, blank, without, old_counted, in_list}
-use Rattle.midpoint_lru.proofs.Kept.{list_is, room_is, old_is, is_in, has, within, mark_is, seen, kept}
+use Rattle.midpoint_lru.proofs.Steps.{Leaves, without, old_counted, in_list}
+use Rattle.midpoint_lru.proofs.Kept.{list_is, room_is, old_is, is_in, has, within, mark_is, counts_as, seen, kept}
 use Rattle.midpoint_lru.proofs.sublists.Sublists.take.Goals as goal
-
-byte_is : (b : Bool) → bool_byte b ≡ cond b 1 0
-byte_is true = refl
-byte_is false = refl
 
 less_by : (b : Bool) (n : ℕ) → n - cond (not b) 1 0 ≡ cond b n (n - 1)
 less_by true n = omega arith
@@ -32,32 +24,25 @@ index-requires c = within c.self.inside c.args.self.now c.self.view_is c.self.in
 pub overflow_sub-self : goal.overflow_sub-self
 overflow_sub-self c =
     let a = c.self.inside in
-    let p = c.args.self.now in
     let k = c.self.invariant in
     let f = c.args.frame in
-    let ms = a.members.items in
-    let there = is_in a p c.self.view_is k f c.requires in
-    let read = c.index.ensures ∙ get_or_default ms f c.index.result.now blank (k.are.there f there) in
-    let mark : c.from.result ≡ cond (member_of ms f).is_old 1 0 = c.from.ensures ∙ byte_is c.index.result.now.is_old ∙ ap (λ (m : Member). cond m.is_old 1 0) read in
-    omega (arith, mark, old_counted a.list a.list ms a.first_old k.young k.old k.are f there, k.share)
+    let mark = counts_as a c.args.self.now c.self.view_is k f c.requires c.index.result.now c.index.ensures c.from.result c.from.ensures in
+    omega (arith, mark, old_counted a.list a.list a.members.items a.first_old k.young k.old k.are f (is_in a c.args.self.now c.self.view_is k f c.requires), k.share)
 
 -- what is left, with the old length that the code makes
 left : (c : goal.After-stands_in_order) → Leaves c.remove.new.self c.self.inside.members.items c.instead-self-inside.result
     (remove c.args.self.now.listed (place_of ◌==◌ c.args.frame c.args.self.now.listed)) (c.self.inside.old_len - c.from.result)
 left c =
     let a = c.self.inside in
-    let p = c.args.self.now in
     let k = c.self.invariant in
     let f = c.args.frame in
     let ms = a.members.items in
-    let there = is_in a p c.self.view_is k f c.requires in
-    let read = c.index.ensures ∙ get_or_default ms f c.index.result.now blank (k.are.there f there) in
-    let mark : c.from.result ≡ cond (member_of ms f).is_old 1 0 = c.from.ensures ∙ byte_is c.index.result.now.is_old ∙ ap (λ (m : Member). cond m.is_old 1 0) read in
-    subst (λ ys. Leaves c.remove.new.self ms c.instead-self-inside.result (remove ys (place_of ◌==◌ f ys)) (a.old_len - c.from.result)) (list_is a p c.self.view_is k)
+    let mark = counts_as a c.args.self.now c.self.view_is k f c.requires c.index.result.now c.index.ensures c.from.result c.from.ensures in
+    subst (λ ys. Leaves c.remove.new.self ms c.instead-self-inside.result (remove ys (place_of ◌==◌ f ys)) (a.old_len - c.from.result)) (list_is a c.args.self.now c.self.view_is k)
     (without a.list c.remove.new.self ms a.first_old k.young k.old k.are f c.instead-self-inside.result c.next-next.result a.old_len k.share
     (λ front back w. c.next-next.ensures front back w.is) c.instead-self-inside.ensures
     (λ front back w. in_list c.remove.new.self (front ++ back) c.stands_in_order.ensures (ap (λ (l : IndexList). l.items) (c.remove.ensures front back w.is)))
-    there (a.old_len - c.from.result) (ap (λ n. a.old_len - n) mark))
+    (is_in a c.args.self.now c.self.view_is k f c.requires) (a.old_len - c.from.result) (ap (λ n. a.old_len - n) mark))
 
 room_left : (c : goal.After-stands_in_order) → c.remove.new.self.room ≡ c.self.inside.list.room
 room_left c =
@@ -70,9 +55,7 @@ returns c =
     let p = c.args.self.now in
     let k = c.self.invariant in
     let f = c.args.frame in
-    let there = is_in a p c.self.view_is k f c.requires in
-    let read = c.index.ensures ∙ get_or_default a.members.items f c.index.result.now blank (k.are.there f there) in
-    let mark : c.from.result ≡ cond (member_of a.members.items f).is_old 1 0 = c.from.ensures ∙ byte_is c.index.result.now.is_old ∙ ap (λ (m : Member). cond m.is_old 1 0) read in
+    let mark = counts_as a p c.self.view_is k f c.requires c.index.result.now c.index.ensures c.from.result c.from.ensures in
     let i = place_of ◌==◌ f p.listed in
     let less : a.old_len - c.from.result ≡ old_without p i =
     ap (λ n. a.old_len - n) (mark ∙ ap {B = ℕ} (λ (m : Bool). cond m 1 0) (mark_is a p c.self.view_is k f c.requires))

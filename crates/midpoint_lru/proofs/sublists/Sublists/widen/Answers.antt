@@ -30,17 +30,15 @@ left : (c : goal.After-self-in-Some-2-1) → let m : Member = record c.index-mem
     Leaves c.self.inside.list (set c.self.inside.members.items c.in-Some.frame m) (Some c.in-Some.frame) c.args.self.now.listed (c.self.inside.old_len + 1)
 left c =
     let a = c.self.inside in
-    let p = c.args.self.now in
     let k = c.self.invariant in
     let f = c.in-Some.frame in
     let ms = a.members.items in
-    let x = c.index-member.result.now in
-    let m : Member = record x { is_old = true } in
+    let m : Member = record c.index-member.result.now { is_old = true } in
     let last_is = sym (c.last_young.ensures k.young k.old k.are.whole.is k.are.first) ∙ c.in-Some.is in
     let t = last_there k.young f last_is in
-    let l = last_within a p c.self.view_is k f last_is in
-    let read = c.index-member.ensures ∙ get_or_default ms f x blank l in
-    subst (λ ys. Leaves a.list (set ms f m) (Some f) ys (a.old_len + 1)) (list_is a p c.self.view_is k)
+    let l = last_within a c.args.self.now c.self.view_is k f last_is in
+    let read = c.index-member.ensures ∙ get_or_default ms f c.index-member.result.now blank l in
+    subst (λ ys. Leaves a.list (set ms f m) (Some f) ys (a.old_len + 1)) (list_is a c.args.self.now c.self.view_is k)
     (wider a.list ms a.first_old k.young k.old k.are f m a.old_len l k.share t.0 t.1 (ap (λ (y : Member). y.first) read) (ap (λ (y : Member). y.since) read) refl)
 
 pub returns : goal.returns

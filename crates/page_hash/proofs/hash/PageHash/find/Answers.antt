@@ -1,7 +1,7 @@
-use Rattle.std.proofs.Common.{◌≡◌, ◌≢◌, ◌∙◌, ◌++◌, true, false, length, Some, slice_get, refl, sym, ap, subst, arith}
-use Rattle.std.proofs.lemmas.Option.{slice_get_read}
-use Rattle.page_hash.specs.Cells.{cell_of, IsCell}
+use Rattle.std.proofs.Common.{◌≡◌, ◌≢◌, ◌∙◌, ◌++◌, true, false, length, Some, sym, ap, subst, arith}
+use Rattle.page_hash.specs.Cells.{IsCell}
 use Rattle.page_hash.specs.View.{page_in, is_page, home}
+use Rattle.page_hash.proofs.Filed.{read_of}
 use Rattle.page_hash.proofs.Homes.{home_is, none_home, is_this, is_its_page}
 use Rattle.page_hash.proofs.Follow.{passing_start, passing_next, shrinks, met, none_left}
 use Rattle.page_hash.proofs.hash.PageHash.find.Goals as goal
@@ -10,12 +10,9 @@ pub loop-at-init : goal.loop-at-init
 loop-at-init c =
     let a = c.self.inside in
     let cells = a.cells.items in
-    let all = c.len.ensures ∙ a.cells.ok.0 in
-    let own : c.cell_of.result ≡ cell_of (length cells) c.args.page = c.cell_of.ensures.cell ∙ ap (λ n. cell_of n c.args.page) all in
-    let there : slice_get cells c.cell_of.result ≡ Some c.index-cell.result.now =
-    slice_get_read cells (length cells) c.cell_of.result c.index-cell.result.now refl (omega (arith, c.cell_of.ensures.inside, all)) c.index-cell.ensures in
+    let read = read_of cells c.args.page _ _ _ (c.len.ensures ∙ a.cells.ok.0) c.cell_of.ensures.cell c.cell_of.ensures.inside c.index-cell.ensures in
     passing_start a.nodes c.index-cell.result.now (length cells) a.pages.items c.args.page c.front-at.result
-    (subst (λ i. IsCell a.nodes c.index-cell.result.now (page_in a.pages.items) (length cells) i) own (c.self.invariant.filed c.cell_of.result c.index-cell.result.now there))
+    (subst (λ i. IsCell a.nodes c.index-cell.result.now (page_in a.pages.items) (length cells) i) read.own (c.self.invariant.filed c.cell_of.result c.index-cell.result.now read.there))
     c.front-at.ensures
 
 pub has-requires : goal.has-requires

@@ -1,9 +1,9 @@
-use Rattle.std.proofs.Common.{◌≡◌, ◌∙◌, ◌≤◌, length, max, None, refl, sym, ap, subst, arith}
+use Rattle.std.proofs.Common.{◌≡◌, ◌∙◌, length, max, None, refl, sym, ap, subst, arith}
 use Rattle.link_lists.specs.Grid.{Grid}
 use Rattle.page_hash.specs.Cells.{AreFiled}
 use Rattle.page_hash.specs.View.{page_in, IsResized}
 use Rattle.page_hash.specs.Inside.{AreApart}
-use Rattle.page_hash.proofs.Homes.{resized, tags_grown}
+use Rattle.page_hash.proofs.Homes.{resized}
 use Rattle.page_hash.proofs.hash.PageHash.resize.Goals as goal
 
 pub file_all-requires-clause-empty : goal.file_all-requires-clause-empty
@@ -33,34 +33,21 @@ invariant_of-self c =
 
 pub invariant_of-self-2 : goal.invariant_of-self-2
 invariant_of-self-2 c =
-    let old = c.self.inside.pages.items in
-    let new = c.resize.new.self.items in
     let e = c.in_ok-resize.ensures in
-    let ok = c.self.inside.pages.ok.0 in
-    let long : length new ≡ c.max-room.result = omega (arith, e.len, c.resize.new.self.ok.0) in
-    let le : length old ≤ c.max-room.result = omega (arith, c.max-room.ensures, c.len.ensures, ok) in
-    let same = tags_grown old new c.max-room.result long (λ f a b. e.by_index.0 f None a (omega (arith, b, ok))) (λ f a b. e.by_index.1 f None refl (omega (arith, a, ok)) b) le in
-    let done = resized old new c.max-room.result long c.self.invariant.apart same in
+    let done = resized c.self.inside.pages.items c.resize.new.self.items c.self.inside.pages.len c.max-room.result c.self.inside.pages.ok.0 (omega (arith, e.len, c.resize.new.self.ok.0)) (omega (arith, c.max-room.ensures, c.len.ensures)) c.self.invariant.apart (λ f. e.by_index.0 f None) (λ f. e.by_index.1 f None refl) in
     let nodes = c.in_ok-grow.ensures.grown.nodes ∙ ap (λ (g : Grid). max g.nodes c.max-room.result) c.new-nodes.ensures in
     let filed = c.file_all.ensures in
     record {
       some = omega (arith, c.in_ok-cells.ensures.count, c.requires, filed.cells, c.file_all.new.cells.ok.0);
-      fits = omega (arith, long, c.max-room.type_inv);
-      nodes = omega (arith, filed.nodes, nodes, long);
+      fits = omega (arith, done.1.room_is, c.max-room.type_inv);
+      nodes = omega (arith, filed.nodes, nodes, done.1.room_is);
       apart = done.0;
       filed = subst (λ xs. AreFiled c.file_all.new.nodes c.file_all.new.cells.items (page_in xs)) c.deref.ensures.value filed.filed;
     }
 
 pub returns-clause-ok : goal.returns-clause-ok
 returns-clause-ok c =
-    let old = c.self.inside.pages.items in
-    let new = c.resize.new.self.items in
     let e = c.in_ok-resize.ensures in
-    let ok = c.self.inside.pages.ok.0 in
-    let long : length new ≡ c.max-room.result = omega (arith, e.len, c.resize.new.self.ok.0) in
-    let le : length old ≤ c.max-room.result = omega (arith, c.max-room.ensures, c.len.ensures, ok) in
-    let same = tags_grown old new c.max-room.result long (λ f a b. e.by_index.0 f None a (omega (arith, b, ok))) (λ f a b. e.by_index.1 f None refl (omega (arith, a, ok)) b) le in
-    let done = resized old new c.max-room.result long c.self.invariant.apart same in
-    let now = ap length c.self.view_is in
-    let frames : c.max-room.result ≡ max (length c.args.self.now) c.args.frames = omega (arith, c.max-room.ensures, c.len.ensures, ok, now) in
-    subst (λ xs. IsResized xs new (max (length c.args.self.now) c.args.frames)) c.self.view_is (subst (λ n. IsResized old new n) frames done.1)
+    let done = resized c.self.inside.pages.items c.resize.new.self.items c.self.inside.pages.len c.max-room.result c.self.inside.pages.ok.0 (omega (arith, e.len, c.resize.new.self.ok.0)) (omega (arith, c.max-room.ensures, c.len.ensures)) c.self.invariant.apart (λ f. e.by_index.0 f None) (λ f. e.by_index.1 f None refl) in
+    let frames : c.max-room.result ≡ max (length c.args.self.now) c.args.frames = omega (arith, c.max-room.ensures, c.len.ensures, c.self.inside.pages.ok.0, ap length c.self.view_is) in
+    subst (λ xs. IsResized xs c.resize.new.self.items (max (length c.args.self.now) c.args.frames)) c.self.view_is (subst (λ n. IsResized c.self.inside.pages.items c.resize.new.self.items n) frames done.1)

@@ -1,7 +1,7 @@
 use Rattle.std.proofs.Common.{sym, rules, arith, ◌≡◌, ◌≤◌, ◌+◌, ◌-◌, length, ap, IfSome, refl}
-use Rattle.redo_mark.specs.Pending.{joined, bytes_of, IsSettled}
+use Rattle.redo_mark.specs.Pending.{joined, IsSettled}
 use Rattle.redo_mark.proofs.Telling.{farther}
-use Rattle.redo_mark.proofs.Marks.{kept_of_log, later_same, settled_uncovered, bytes_uncovered, bytes_durable, settled_durable, grown_uncovered, grown_durable}
+use Rattle.redo_mark.proofs.Marks.{kept_of_log, later_same, settled_uncovered, bytes_uncovered, bytes_covered, settled_durable, grown_uncovered, grown_durable}
 use Rattle.redo_mark.proofs.redo.Redo.cover.Goals as goal
 
 pub returns-then-lsn-self-clause-kept : goal.returns-then-lsn-self-clause-kept
@@ -12,11 +12,8 @@ returns-then-lsn-self-2-clause-kept g c = rw (← c.self.view_is) (kept_of_log _
 
 pub invariant_of-self : goal.invariant_of-self
 invariant_of-self g c =
-    let opened = (g.R.RedoDisk.seen c.self.inside.disk).opened in
-    let n = c.self.inside.durable - c.self.inside.first in
-    let told = (g.R.RedoDisk.seen c.write_through.new.disk).told in
-    let same : (g.R.RedoDisk.seen c.write_through.new.disk).opened ≡ opened = search rules in
-    let settled : IfSome told (IsSettled opened n) = settled_uncovered opened n _ _ _ (omega (arith, c.self.invariant.low)) c.self.invariant.settled c.in-Err.ensures.err in
+    let same : (g.R.RedoDisk.seen c.write_through.new.disk).opened ≡ (g.R.RedoDisk.seen c.self.inside.disk).opened = search rules in
+    let settled = settled_uncovered (g.R.RedoDisk.seen c.self.inside.disk).opened (c.self.inside.durable - c.self.inside.first) _ (g.R.RedoDisk.seen c.self.inside.disk).told (g.R.RedoDisk.seen c.write_through.new.disk).told (omega (arith, c.self.invariant.low)) c.self.invariant.settled c.in-Err.ensures.err in
     record {
       low = rw same c.self.invariant.low;
       ends = c.self.invariant.ends;
@@ -24,17 +21,14 @@ invariant_of-self g c =
       few = c.self.invariant.few;
       reached = search rules;
       settled = rw same settled;
-      grown = rw same (grown_uncovered opened n _ _ _ _ _ (omega (arith, c.self.invariant.low)) (omega (arith, c.self.invariant.low, c.self.invariant.ends)) c.self.invariant.grown c.in-Err.ensures.err);
-      whole = rw (same, bytes_uncovered opened n n _ _ _ c.self.inside.pending c.in-Err.ensures.err) c.self.invariant.whole;
+      grown = rw same (grown_uncovered (g.R.RedoDisk.seen c.self.inside.disk).opened (c.self.inside.durable - c.self.inside.first) _ _ _ _ _ (omega (arith, c.self.invariant.low)) (omega (arith, c.self.invariant.low, c.self.invariant.ends)) c.self.invariant.grown c.in-Err.ensures.err);
+      whole = rw (same, bytes_uncovered (g.R.RedoDisk.seen c.self.inside.disk).opened (c.self.inside.durable - c.self.inside.first) (c.self.inside.durable - c.self.inside.first) _ _ _ c.self.inside.pending c.in-Err.ensures.err) c.self.invariant.whole;
     }
 
 pub returns-in-Err-clause-kept : goal.returns-in-Err-clause-kept
 returns-in-Err-clause-kept g c =
-    let opened = (g.R.RedoDisk.seen c.self.inside.disk).opened in
-    let n = c.self.inside.durable - c.self.inside.first in
-    let told = (g.R.RedoDisk.seen c.write_through.new.disk).told in
-    let same : (g.R.RedoDisk.seen c.write_through.new.disk).opened ≡ opened = search rules in
-    let settled : IfSome told (IsSettled opened n) = settled_uncovered opened n _ _ _ (omega (arith, c.self.invariant.low)) c.self.invariant.settled c.in-Err.ensures.err in
+    let same : (g.R.RedoDisk.seen c.write_through.new.disk).opened ≡ (g.R.RedoDisk.seen c.self.inside.disk).opened = search rules in
+    let settled = settled_uncovered (g.R.RedoDisk.seen c.self.inside.disk).opened (c.self.inside.durable - c.self.inside.first) _ (g.R.RedoDisk.seen c.self.inside.disk).told (g.R.RedoDisk.seen c.write_through.new.disk).told (omega (arith, c.self.invariant.low)) c.self.invariant.settled c.in-Err.ensures.err in
     rw same (kept_of_log _ _ _ _ (g.R.RedoDisk.seen c.write_through.new.disk).faults _ _ c.self.invariant.low c.self.invariant.ends settled)
 
 pub returns-clause-kept : goal.returns-clause-kept
@@ -53,53 +47,36 @@ returns-clause-kept g c =
 pub returns-clause-later : goal.returns-clause-later
 returns-clause-later g c =
     let laws = g.met.R.RedoDisk g.world.𝓛 g.world.𝓜 g.world.𝓡 ((λ s x. x), (λ x. x), (λ x. x), λ x. x) in
-    let opened = (g.R.RedoDisk.seen c.self.inside.disk).opened in
-    let n = c.self.inside.durable - c.self.inside.first in
-    let disk = c.write_through.new.disk in
-    let same : (g.R.RedoDisk.seen disk).opened ≡ opened = search rules in
-    let to : c.self.inside.end - c.self.inside.first ≡ n + length (joined c.self.inside.pending) = omega (arith, c.self.invariant.low, c.self.invariant.ends) in
-    let inside = farther n _ (g.R.RedoDisk.seen c.self.inside.disk).told c.self.invariant.reached (laws.sized c.self.inside.disk).written in
-    let bytes : bytes_of (g.R.RedoDisk.seen disk).opened (c.self.inside.end - c.self.inside.first) (g.R.RedoDisk.seen disk).told c.clear.new.self
-    ≡ bytes_of opened n (g.R.RedoDisk.seen c.self.inside.disk).told c.self.inside.pending =
-    rw (same, to, c.clear.ensures) (bytes_durable opened n _ _ c.self.inside.pending (omega (arith, c.self.invariant.low)) inside c.self.invariant.settled c.in-Ok.ensures.ok) in
+    let same : (g.R.RedoDisk.seen c.write_through.new.disk).opened ≡ (g.R.RedoDisk.seen c.self.inside.disk).opened = search rules in
+    let bytes = bytes_covered _ _ c.self.inside.first c.self.inside.durable c.self.inside.end (g.R.RedoDisk.seen c.self.inside.disk).told (g.R.RedoDisk.seen c.write_through.new.disk).told c.self.inside.pending c.clear.new.self same c.self.invariant.low c.self.invariant.ends c.clear.ensures (farther (c.self.inside.durable - c.self.inside.first) _ (g.R.RedoDisk.seen c.self.inside.disk).told c.self.invariant.reached (laws.sized c.self.inside.disk).written) c.self.invariant.settled c.in-Ok.ensures.ok in
     rw (← c.self.view_is) (later_same _ _ refl (ap (λ k. c.self.inside.first + k) same) (omega (arith, c.self.invariant.ends)) (omega arith) c.write_through.ensures.later bytes)
 
 pub returns-clause-whole : goal.returns-clause-whole
 returns-clause-whole g c =
     let laws = g.met.R.RedoDisk g.world.𝓛 g.world.𝓜 g.world.𝓡 ((λ s x. x), (λ x. x), (λ x. x), λ x. x) in
-    let opened = (g.R.RedoDisk.seen c.self.inside.disk).opened in
-    let n = c.self.inside.durable - c.self.inside.first in
-    let disk = c.write_through.new.disk in
-    let same : (g.R.RedoDisk.seen disk).opened ≡ opened = search rules in
-    let to : c.self.inside.end - c.self.inside.first ≡ n + length (joined c.self.inside.pending) = omega (arith, c.self.invariant.low, c.self.invariant.ends) in
-    let inside = farther n _ (g.R.RedoDisk.seen c.self.inside.disk).told c.self.invariant.reached (laws.sized c.self.inside.disk).written in
-    let bytes : bytes_of (g.R.RedoDisk.seen disk).opened (c.self.inside.end - c.self.inside.first) (g.R.RedoDisk.seen disk).told c.clear.new.self
-    ≡ bytes_of opened n (g.R.RedoDisk.seen c.self.inside.disk).told c.self.inside.pending =
-    rw (same, to, c.clear.ensures) (bytes_durable opened n _ _ c.self.inside.pending (omega (arith, c.self.invariant.low)) inside c.self.invariant.settled c.in-Ok.ensures.ok) in
+    let same : (g.R.RedoDisk.seen c.write_through.new.disk).opened ≡ (g.R.RedoDisk.seen c.self.inside.disk).opened = search rules in
+    let bytes = bytes_covered _ _ c.self.inside.first c.self.inside.durable c.self.inside.end (g.R.RedoDisk.seen c.self.inside.disk).told (g.R.RedoDisk.seen c.write_through.new.disk).told c.self.inside.pending c.clear.new.self same c.self.invariant.low c.self.invariant.ends c.clear.ensures (farther (c.self.inside.durable - c.self.inside.first) _ (g.R.RedoDisk.seen c.self.inside.disk).told c.self.invariant.reached (laws.sized c.self.inside.disk).written) c.self.invariant.settled c.in-Ok.ensures.ok in
     rw (bytes, same) c.self.invariant.whole
 
 pub invariant_of-self-2 : goal.invariant_of-self-2
 invariant_of-self-2 g c =
     let laws = g.met.R.RedoDisk g.world.𝓛 g.world.𝓜 g.world.𝓡 ((λ s x. x), (λ x. x), (λ x. x), λ x. x) in
-    let opened = (g.R.RedoDisk.seen c.self.inside.disk).opened in
     let n = c.self.inside.durable - c.self.inside.first in
-    let disk = c.write_through.new.disk in
-    let same : (g.R.RedoDisk.seen disk).opened ≡ opened = search rules in
+    let same : (g.R.RedoDisk.seen c.write_through.new.disk).opened ≡ (g.R.RedoDisk.seen c.self.inside.disk).opened = search rules in
+    let inside = farther (c.self.inside.durable - c.self.inside.first) _ (g.R.RedoDisk.seen c.self.inside.disk).told c.self.invariant.reached (laws.sized c.self.inside.disk).written in
+    let bytes = bytes_covered _ _ c.self.inside.first c.self.inside.durable c.self.inside.end (g.R.RedoDisk.seen c.self.inside.disk).told (g.R.RedoDisk.seen c.write_through.new.disk).told c.self.inside.pending c.clear.new.self same c.self.invariant.low c.self.invariant.ends c.clear.ensures inside c.self.invariant.settled c.in-Ok.ensures.ok in
     let to : c.self.inside.end - c.self.inside.first ≡ n + length (joined c.self.inside.pending) = omega (arith, c.self.invariant.low, c.self.invariant.ends) in
-    let inside = farther n _ (g.R.RedoDisk.seen c.self.inside.disk).told c.self.invariant.reached (laws.sized c.self.inside.disk).written in
-    let bytes : bytes_of (g.R.RedoDisk.seen disk).opened (c.self.inside.end - c.self.inside.first) (g.R.RedoDisk.seen disk).told c.clear.new.self
-    ≡ bytes_of opened n (g.R.RedoDisk.seen c.self.inside.disk).told c.self.inside.pending =
-    rw (same, to, c.clear.ensures) (bytes_durable opened n _ _ c.self.inside.pending (omega (arith, c.self.invariant.low)) inside c.self.invariant.settled c.in-Ok.ensures.ok) in
     let none : length (joined c.clear.new.self) ≡ 0 = ap (λ l. length (joined l)) c.clear.ensures in
-    let far : c.self.inside.end - c.self.inside.first ≤ (g.R.RedoDisk.seen disk).reach = omega (arith, to, c.in-Ok.ensures.reached) in
+    let far : c.self.inside.end - c.self.inside.first ≤ (g.R.RedoDisk.seen c.write_through.new.disk).reach = omega (arith, to, c.in-Ok.ensures.reached) in
+    let written = farther _ _ _ far (laws.sized c.write_through.new.disk).written in
     record {
       low = omega (arith, same, c.self.invariant.low, c.self.invariant.ends);
       ends = omega (arith, none);
       limit = c.self.invariant.limit;
       few = rw c.clear.ensures (omega arith);
       reached = far;
-      settled = settled_durable _ n (c.self.inside.end - c.self.inside.first) (joined c.self.inside.pending) _ _ (farther _ _ _ far (laws.sized disk).written) c.in-Ok.ensures.ok;
-      grown = rw same (grown_durable opened n _ (joined c.self.inside.pending) _ _ _ (omega (arith, c.self.invariant.low)) (sym to) inside (farther _ _ _ far (laws.sized disk).written)
+      settled = settled_durable _ n (c.self.inside.end - c.self.inside.first) (joined c.self.inside.pending) _ _ written c.in-Ok.ensures.ok;
+      grown = rw same (grown_durable (g.R.RedoDisk.seen c.self.inside.disk).opened n _ (joined c.self.inside.pending) _ _ _ (omega (arith, c.self.invariant.low)) (sym to) inside written
           c.self.invariant.grown c.in-Ok.ensures.ok);
       whole = rw (bytes, same) c.self.invariant.whole;
     }

@@ -11,7 +11,7 @@ pub returns-in-Ok-clause-along : goal.returns-in-Ok-clause-along
 returns-in-Ok-clause-along g c = λ frames.
     let seen = g.D.PageDisk.seen in
     along_checked seen c.args.desk.now.state c.check_at.new.self.state frames c.args.redo.now.seen (working c.args.self.now) c.in-Ok.field-0
-    c.in-Ok.ensures.answers.checked (λ o was. c.in-Ok.ensures.answers.behind o (seen_of frames) was) (λ tied. c.in-Ok.ensures.answers.tied (seen_of frames) tied) c.in-Ok.ensures.answers.known
+    c.in-Ok.ensures.answers.checked (λ o was. c.in-Ok.ensures.answers.behind o (seen_of frames) was) (λ was. (c.in-Ok.ensures.answers.tied (seen_of frames) was.0, c.in-Ok.ensures.answers.hands was.1)) c.in-Ok.ensures.answers.known
 
 pub returns-in-Ok-clause-done : goal.returns-in-Ok-clause-done
 returns-in-Ok-clause-done g c = λ o start past so.

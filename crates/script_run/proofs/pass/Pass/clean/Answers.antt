@@ -6,12 +6,15 @@ use Rattle.trail.specs.declared.event.Call.TheVariants as call
 use Rattle.trail.specs.Calls.{held_after_kind}
 use Rattle.trail.specs.Trails.{Opening}
 use Rattle.desk.specs.declared.calls.CleanErr.{CleanErr}
-use Rattle.desk.specs.Changes.{IsCleanedBy, IsCleanRefusal}
+use Rattle.desk.specs.Changes.{IsCleanedBy}
+use Rattle.desk.specs.Cleans.{IsCleanRefusal}
+use Rattle.desk.specs.Moments.{moment_of}
+use Rattle.frame_words.specs.Plain.{seen_of}
 use Rattle.script_text.specs.declared.script.Command.TheVariants as command
 use Rattle.script_run.specs.Openings.{Start}
 use Rattle.script_run.specs.Work.{Working, SoFar, Does, Along, with_answer}
 use Rattle.script_run.specs.Workers.{working}
-use Rattle.script_run.proofs.Growing.{me, Left, Moves, room_of}
+use Rattle.script_run.proofs.Growing.{me, Moves, room_of}
 use Rattle.script_run.proofs.Framing.{all_told}
 use Rattle.script_run.proofs.Along.{along_cleaned}
 use Rattle.script_run.proofs.Cleaning.{does_clean, does_uncovered_clean, does_unwritten_clean}
@@ -43,24 +46,24 @@ returns-clause-along g c =
     let was = c.args.redo.now.seen in
     let is = c.clean_at.new.redo.seen in
     let e = c.clean_at.ensures in
-    let left : (pool : new.config ≡ old.config) (same : new.instance ≡ old.instance) → Left seen old new =
-    λ pool same. record { config = pool; instance = same; sizes = e.sizes.0; telling = e.telling; spaces_are = e.sizes.1; later = e.counted } in
-    let R : CleanErr → Type 0 = λ x. IsCleanRefusal old new (me w) c.args.bound false (seen old.disk).faults (seen new.disk).faults was.faults is.faults x in
+    let m = moment_of seen_of g.R.RedoDisk.seen c.args.desk.now c.args.frames.now c.args.redo.now in
+    let n = moment_of seen_of g.R.RedoDisk.seen c.clean_at.new.self c.clean_at.new.frames c.clean_at.new.redo in
+    let R : CleanErr → Type 0 = λ x. IsCleanRefusal seen m n (me w) c.args.bound false x in
     let A : Working → Type 0 = λ v. Along seen 1 old new c.args.frames.now c.clean_at.new.frames was is w v in
     let so : (n : ℕ) (k : Kind) → IsCleanedBy old new (me w) n k → n ≤ c.args.bound → Leaves k → held_after_kind w.next k w.fixed ≡ w.fixed → A (with_answer w k) =
-    λ n k cleaned most leaves kept. along_cleaned seen old new c.args.frames.now c.clean_at.new.frames was is w n k cleaned (omega (arith, most, c.requires.range)) leaves kept e.unmoved (left cleaned.config cleaned.instance)
-    e.behind e.tied e.later e.known in
+    λ n k cleaned most leaves kept. along_cleaned seen old new c.args.frames.now c.clean_at.new.frames was is w n k cleaned (omega (arith, most, c.requires.range)) leaves kept e.left.unmoved e.keeps.desk
+    e.left.behind (e.keeps.rest.tied, e.keeps.rest.hands) e.keeps.later (e.keeps.known c.requires.known) in
     elim c.match-clean_at.branch [
       | in-Ok x ↦
-          let n = x.in-Ok.field-0.written in
-          let ok = x.in-Ok.ensures.ok.1 in
-          ok_so _ _ _ x.result-is (subst A (ap working (sym x.self-is)) (so n (kind.Clean n []) ok.cleaned ok.most (clean_leaves n []) refl))
+          let k = x.in-Ok.field-0.written in
+          let ok = x.in-Ok.ensures.answers.cleaned in
+          ok_so _ _ _ x.result-is (subst A (ap working (sym x.self-is)) (so k (kind.Clean k []) ok.cleaned ok.most (clean_leaves k []) refl))
       | in-Err-OutOfMemory x ↦ err_so _ _ _ x.result-is
       | in-Err-RedoFault x ↦
-          let un = (subst R x.in-Err-RedoFault.field-0-is x.in-Err-RedoFault.ensures.refused).1 in
+          let un = (subst R x.in-Err-RedoFault.field-0-is x.in-Err-RedoFault.ensures.answers).1 in
           ok_so _ _ _ x.result-is (subst A (ap working (sym x.self-is)) (so un.written _ un.cleaned un.most (refused_leaves (call.Clean c.args.bound) _) refl))
       | in-Err-DiskFault x ↦
-          let un = (subst R x.in-Err-DiskFault.field-0-is x.in-Err-DiskFault.ensures.refused).1 in
+          let un = (subst R x.in-Err-DiskFault.field-0-is x.in-Err-DiskFault.ensures.answers).1 in
           ok_so _ _ _ x.result-is (subst A (ap working (sym x.self-is)) (so un.written _ un.cleaned un.most (refused_leaves (call.Clean c.args.bound) _) refl))
     ]
 
@@ -73,31 +76,31 @@ returns-clause-done g c =
     let was = c.args.redo.now.seen in
     let is = c.clean_at.new.redo.seen in
     let e = c.clean_at.ensures in
-    let left : (pool : new.config ≡ old.config) (same : new.instance ≡ old.instance) → Left seen old new =
-    λ pool same. record { config = pool; instance = same; sizes = e.sizes.0; telling = e.telling; spaces_are = e.sizes.1; later = e.counted } in
-    let R : CleanErr → Type 0 = λ x. IsCleanRefusal old new (me w) c.args.bound false (seen old.disk).faults (seen new.disk).faults was.faults is.faults x in
+    let m = moment_of seen_of g.R.RedoDisk.seen c.args.desk.now c.args.frames.now c.args.redo.now in
+    let n = moment_of seen_of g.R.RedoDisk.seen c.clean_at.new.self c.clean_at.new.frames c.clean_at.new.redo in
+    let R : CleanErr → Type 0 = λ x. IsCleanRefusal seen m n (me w) c.args.bound false x in
     let W : Working → Type 0 = λ v. (o : Opening) (start : Start) (past : List Event) → SoFar seen o start old was w past [] → Does seen o start new is v past (command.Clean c.args.bound) in
-    let moves : (o : Opening) (start : Start) (past : List Event) → SoFar seen o start old was w past [] → (pool : new.config ≡ old.config) (same : new.instance ≡ old.instance) → Moves seen old new was is =
-    λ o start past so pool same. record { left = left pool same; later = e.later.faults; logged = e.logged so.logged } in
+    let moves : (o : Opening) (start : Start) (past : List Event) → SoFar seen o start old was w past [] → Moves seen old new was is =
+    λ o start past so. record { left = e.keeps.desk; later = e.keeps.later.faults; logged = e.keeps.logged so.logged } in
     let front = c.dirty_pages_are_apart.ensures.front in
     elim c.match-clean_at.branch [
       | in-Ok x ↦
-          let n = x.in-Ok.field-0.written in
-          let ok = x.in-Ok.ensures.ok.1 in
-          let made : W (with_answer w (kind.Clean n [])) =
-          λ o start past so. does_clean seen o start old new was is w past so (moves o start past so ok.cleaned.config ok.cleaned.instance) c.args.bound n front ok c.requires.range (room_of seen o start old was w past [] 16385 so (omega (arith, c.requires.places))) in
+          let k = x.in-Ok.field-0.written in
+          let ok = x.in-Ok.ensures.answers.cleaned in
+          let made : W (with_answer w (kind.Clean k [])) =
+          λ o start past so. does_clean seen o start old new was is w past so (moves o start past so) c.args.bound k front ok c.requires.range (room_of seen o start old was w past [] 16385 so (omega (arith, c.requires.places))) in
           ok_so _ _ _ x.result-is (subst W (ap working (sym x.self-is)) made)
       | in-Err-OutOfMemory x ↦ err_so _ _ _ x.result-is
       | in-Err-RedoFault x ↦
-          let re = subst R x.in-Err-RedoFault.field-0-is x.in-Err-RedoFault.ensures.refused in
+          let re = subst R x.in-Err-RedoFault.field-0-is x.in-Err-RedoFault.ensures.answers in
           let un = re.1 in
           let made : W (record w { next = w.next + 1 }) =
-          λ o start past so. does_uncovered_clean seen o start old new was is w past so (moves o start past so un.cleaned.config un.cleaned.instance) c.args.bound un.written _ _ front un.cleaned un.most re.0 c.requires.range (room_of seen o start old was w past [] 16385 so (omega (arith, c.requires.places))) in
+          λ o start past so. does_uncovered_clean seen o start old new was is w past so (moves o start past so) c.args.bound un.written _ _ front un.cleaned un.most re.0 c.requires.range (room_of seen o start old was w past [] 16385 so (omega (arith, c.requires.places))) in
           ok_so _ _ _ x.result-is (subst W (ap working (sym x.self-is)) made)
       | in-Err-DiskFault x ↦
-          let re = subst R x.in-Err-DiskFault.field-0-is x.in-Err-DiskFault.ensures.refused in
+          let re = subst R x.in-Err-DiskFault.field-0-is x.in-Err-DiskFault.ensures.answers in
           let un = re.1 in
           let made : W (record w { next = w.next + 1 }) =
-          λ o start past so. does_unwritten_clean seen o start old new was is w past so (moves o start past so un.cleaned.config un.cleaned.instance) c.args.bound un.written _ _ front un.cleaned un.most re.0 c.requires.range (room_of seen o start old was w past [] 16385 so (omega (arith, c.requires.places))) in
+          λ o start past so. does_unwritten_clean seen o start old new was is w past so (moves o start past so) c.args.bound un.written _ _ front un.cleaned un.most re.0 c.requires.range (room_of seen o start old was w past [] 16385 so (omega (arith, c.requires.places))) in
           ok_so _ _ _ x.result-is (subst W (ap working (sym x.self-is)) made)
     ]

@@ -26,7 +26,7 @@ put_at-requires-clause-asked g c κs within =
       own = own;
       opened = tt;
       resident = held_resident c.args.desk.now.state.history (reverse c.args.self.now.fixed.items) c.args.page c.requires.ready.housed some;
-      range = record { some = c.requires.range.1; header = c.requires.range.3; trailer = c.requires.range.4 };
+      range = c.requires.range.2;
     }
 
 pub put_at-requires-clause-alone : goal.put_at-requires-clause-alone
@@ -49,7 +49,7 @@ pub returns-in-Ok-clause-along : goal.returns-in-Ok-clause-along
 returns-in-Ok-clause-along g c =
     let seen = g.D.PageDisk.seen in
     along_put seen c.args.desk.now.state c.put_at.new.self.state c.args.frames.now c.put_at.new.frames c.args.redo.now.seen c.put_at.new.redo.seen (working c.args.self.now) c.args.page c.args.at c.args.bytes.now
-    c.in-Ok.field-0 c.in-Ok.ensures.answers.done c.in-Ok.ensures.answers.behind c.put_at.ensures.keeps.rest.tied c.put_at.ensures.keeps.later (c.put_at.ensures.keeps.known c.requires.known)
+    c.in-Ok.field-0 c.in-Ok.ensures.answers.done c.in-Ok.ensures.answers.behind (c.put_at.ensures.keeps.rest.tied, c.put_at.ensures.keeps.rest.hands) c.put_at.ensures.keeps.later (c.put_at.ensures.keeps.known c.requires.known)
 
 pub returns-in-Ok-clause-done : goal.returns-in-Ok-clause-done
 returns-in-Ok-clause-done g c =
@@ -58,7 +58,7 @@ returns-in-Ok-clause-done g c =
     let some : IsSome (newest_fix w.fixed c.args.page) = search rules in
     λ o start past so. does_put_held seen o start c.args.desk.now.state c.put_at.new.self.state c.args.redo.now.seen c.put_at.new.redo.seen w past c.args.page c.args.at c.args.bytes.now
     (newest_fix w.fixed c.args.page) c.in-Ok.field-0 so refl some c.in-Ok.ensures.answers.done c.in-Ok.ensures.answers.span.0 c.requires.known c.put_at.ensures.keeps.later c.put_at.ensures.keeps.logged
-    (record { some = c.requires.range.1; header = c.requires.range.3; trailer = c.requires.range.4 })
+    c.requires.range.2
     (room_of seen o start c.args.desk.now.state c.args.redo.now.seen w past [] ANSWER_NEED so c.requires.places)
 
 pub returns-in-Err-LogSpent-clause-along : goal.returns-in-Err-LogSpent-clause-along
@@ -68,7 +68,7 @@ returns-in-Err-LogSpent-clause-along g c =
     let R : PutErr → Type 0 = λ e. IsPutRefusal c.args.desk.now.state c.put_at.new.self.state (me w) c.args.page c.args.at c.args.bytes.now c.args.redo.now.seen.end c.put_at.new.redo.seen.end e in
     let spent = subst R c.in-Err-LogSpent.field-0-is c.in-Err-LogSpent.ensures.answers.refused in
     along_spent seen c.args.desk.now.state c.put_at.new.self.state c.args.frames.now c.put_at.new.frames c.args.redo.now.seen c.put_at.new.redo.seen w c.args.page c.args.at c.args.bytes.now
-    _ spent c.in-Err-LogSpent.ensures.answers.unmoved c.in-Err-LogSpent.ensures.answers.behind c.put_at.ensures.keeps.rest.tied c.put_at.ensures.keeps.later (c.put_at.ensures.keeps.known c.requires.known)
+    _ spent c.in-Err-LogSpent.ensures.answers.unmoved c.in-Err-LogSpent.ensures.answers.behind (c.put_at.ensures.keeps.rest.tied, c.put_at.ensures.keeps.rest.hands) c.put_at.ensures.keeps.later (c.put_at.ensures.keeps.known c.requires.known)
 
 pub returns-in-Err-LogSpent-clause-done : goal.returns-in-Err-LogSpent-clause-done
 returns-in-Err-LogSpent-clause-done g c =

@@ -32,7 +32,7 @@ copied-requires-clause-range g c =
     let read : slice_get items c.in-Some.newest ≡ Some h = slice_get_read items (length items) c.in-Some.newest h refl c.in-Some.ensures.some.0 c.index-held.ensures in
     let resident = newest_home desk.history (reverse items) c.args.page h c.requires.ready.housed (sym c.in-Some.ensures.some.1 ∙ read) in
     range_of seen desk c.args.frames.now (reverse items) h.frame c.args.at c.args.len c.requires.ready (c.requires.ready.homes c.args.page h.frame resident)
-    c.requires.range.1 c.requires.range.3 c.requires.range.4
+    c.requires.range.2.some c.requires.range.2.header c.requires.range.2.trailer
 
 pub returns-in_default : goal.returns-in_default
 returns-in_default g c =

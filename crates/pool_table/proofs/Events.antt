@@ -1,0 +1,112 @@
+-- Accounts with one event more, and the words of callers that are alone.
+use Rattle.std.proofs.Common.{◌≡◌, ◌≢◌, ◌⊎◌, ℕ, ◌≤◌, Bool, true, false, true≢false, cond, List, [], ◌∷◌, Option, None, Some, IfSome, IsSomeAnd, refl, sym, ap, ◌∙◌, arith, nat_eq, eq-eqb, ⊎_elim}
+use Rattle.std.proofs.lemmas.Bool.Decides.{nat_tests}
+use Rattle.std.specs.Prelude.{Contains}
+use Rattle.std.specs.List.{AllByRecursion}
+use Rattle.redo_log.specs.declared.view.Piece.{Piece}
+use Rattle.redo_log.specs.Passes.{Known}
+use Rattle.trail.specs.declared.event.Entry.{Entry}
+use Rattle.trail.specs.declared.event.Event.{Event}
+use Rattle.trail.specs.declared.event.Event.TheVariants as event
+use Rattle.trail.specs.declared.event.Held.{Held}
+use Rattle.trail.specs.declared.event.Kind.{Kind}
+use Rattle.trail.specs.declared.event.Kind.TheVariants as kind
+use Rattle.trail.specs.declared.event.Note.{Note}
+use Rattle.trail.specs.declared.event.Note.TheVariants as note
+use Rattle.trail.specs.Alone.{is_of_flush}
+use Rattle.trail.specs.Calls.{held_after_kind, held_after_note, open_fixes}
+use Rattle.trail.specs.Kinds.{Changing, Writing, change_in, write_in}
+use Rattle.trail.specs.Trails.{caller_of}
+use Rattle.trail_laws.specs.Accounts.{seen_by, with_event}
+use Rattle.trail_laws.specs.SoFar.{AreAlone, AreTrueAlone, AreTrueBy, IsTrueBy, is_of_clean}
+use Rattle.trail_laws.proofs.Places.{with_each}
+use Rattle.pool_table.specs.Kept.{IsLogged, Stands}
+use Rattle.pool_table.specs.Steps.{KnowsMore}
+
+pub off : {A : Type 0} → false ≡ true → A
+off e = absurd (true≢false (sym e))
+
+pub with_here : (x : Event) (accounts : ℕ → List Event) (d : ℕ) → caller_of x ≡ d → with_event x accounts d ≡ x ∷ accounts d
+with_here x accounts d e = ap (λ (b : Bool). cond b (x ∷ accounts d) (accounts d)) (eq-eqb d (caller_of x) (sym e))
+
+pub with_else : (x : Event) (accounts : ℕ → List Event) (d : ℕ) → d ≢ caller_of x → with_event x accounts d ≡ accounts d
+with_else x accounts d n = let no : nat_eq d (caller_of x) ≡ false = grind (arith, nat_tests) in ap (λ (b : Bool). cond b (x ∷ accounts d) (accounts d)) no
+
+pub tail_all : (P : Event → Type 0) (x : Event) (accounts : ℕ → List Event) (d : ℕ) → AllByRecursion P (with_event x accounts d) → AllByRecursion P (accounts d)
+tail_all P x accounts d all = cases (nat_eq d (caller_of x)) all
+  where
+    cases : (b : Bool) → AllByRecursion P (cond b (x ∷ accounts d) (accounts d)) → AllByRecursion P (accounts d)
+    cases true all = all.1
+    cases false all = all
+
+-- Words stay true behind an event that tells true ones.
+pub words_added : (h h' : List Entry) (accounts : ℕ → List Event) (x : Event) → ((c d : ℕ) → AreTrueBy c h (accounts d) → AreTrueBy c h' (accounts d))
+    → ((c : ℕ) (flush : Option ℕ) → AreAlone c flush (with_event x accounts) → IsTrueBy c (seen_by x h') (accounts (caller_of x)) x) → AreTrueAlone h accounts → AreTrueAlone h' (with_event x accounts)
+words_added h h' accounts x stay tell words c flush alone =
+    let P : Event → Type 0 = λ e. ((is_of_flush flush e ≡ true) × (is_of_clean e ≡ true)) ⊎ (caller_of e ≡ c) in
+    let was : (d : ℕ) → AreTrueBy c h (accounts d) = words c flush (λ d. tail_all P x accounts d (alone d)) in
+    with_each (λ d mine. AreTrueBy c h' mine) x accounts (tell c flush alone, stay c (caller_of x) (was (caller_of x))) (λ d other. stay c d (was d))
+
+-- a clean's events open no fix
+opens_none : (n : ℕ) (k : Kind) (held : List Held) → is_of_clean (event.Entry (record { place = 0; caller = 0; number = n; kind = k })) ≡ true → held_after_kind n k held ≡ held
+opens_none n (kind.Load p f) held is = refl
+opens_none n (kind.Fix p f clock now) held is = off is
+opens_none n (kind.Create p f start end now) held is = off is
+opens_none n (kind.Put p at bytes start end) held is = refl
+opens_none n (kind.Evict p f passed) held is = refl
+opens_none n (kind.Write p lsn upto) held is = refl
+opens_none n (kind.Move p from to) held is = refl
+opens_none n (kind.Withdraw from) held is = refl
+opens_none n (kind.Undo from) held is = refl
+opens_none n (kind.Shrink chunks) held is = refl
+opens_none n (kind.Grow chunks) held is = refl
+opens_none n (kind.Resize bytes chunks) held is = refl
+opens_none n (kind.Clean written skipped) held is = refl
+opens_none n (kind.Check lsn) held is = refl
+opens_none n (kind.WatchSet p) held is = refl
+opens_none n (kind.WatchAt p f) held is = refl
+opens_none n (kind.Occurred p arrived) held is = refl
+opens_none n (kind.Unwatch p) held is = refl
+opens_none n (kind.Dump pct ids) held is = refl
+opens_none n (kind.Refused asked why) held is = refl
+
+notes_none : (n : ℕ) (k : Note) (held : List Held) → is_of_clean (event.Receipt (record { place = 0; caller = 0; number = n; note = k })) ≡ true → held_after_note n k held ≡ held
+notes_none n (note.Granted p f clock) held is = off is
+notes_none n (note.Copied p at bytes clock) held is = refl
+notes_none n (note.Unfixed p f fix) held is = off is
+notes_none n (note.Refused asked why) held is = refl
+
+-- A caller has no open fix where another is alone.
+pub none_open : (c d : ℕ) (flush : Option ℕ) (mine : List Event) → d ≢ c → AllByRecursion (λ e. caller_of e ≡ d) mine
+    → AllByRecursion (λ e. ((is_of_flush flush e ≡ true) × (is_of_clean e ≡ true)) ⊎ (caller_of e ≡ c)) mine → open_fixes mine ≡ []
+none_open c d flush [] n own all = refl
+none_open c d flush (event.Entry e ∷ mine) n own all = ⊎_elim
+    (λ (t : (is_of_flush flush (event.Entry e) ≡ true) × (is_of_clean (event.Entry e) ≡ true)). opens_none e.number e.kind (open_fixes mine) t.1 ∙ none_open c d flush mine n own.1 all.1)
+    (λ (s : e.caller ≡ c). absurd (n (sym own.0 ∙ s))) all.0
+none_open c d flush (event.Receipt r ∷ mine) n own all = ⊎_elim
+    (λ (t : (is_of_flush flush (event.Receipt r) ≡ true) × (is_of_clean (event.Receipt r) ≡ true)). notes_none r.number r.note (open_fixes mine) t.1 ∙ none_open c d flush mine n own.1 all.1)
+    (λ (s : r.caller ≡ c). absurd (n (sym own.0 ∙ s))) all.0
+
+-- What the log had of a caller's entries it has where its pass knows more.
+pub some_more : {A : Type 0} (o : Option A) (P Q : A → Type 0) → ((a : A) → P a → Q a) → IfSome o P → IfSome o Q
+some_more None P Q f x = x
+some_more (Some a) P Q f x = f a x
+
+knows_more : (P : Known → Type 0) (old new : Option Known) → ((a b : Known) → (a.durable ≤ b.durable) × ((p : Piece) → Contains a.pieces p → Contains b.pieces p) → P a → P b) → KnowsMore old new
+    → IsSomeAnd old P → IsSomeAnd new P
+knows_more P None new f more is = absurd is
+knows_more P (Some a) None f more is = absurd more
+knows_more P (Some a) (Some b) f more is = f a b more is
+
+pub logged_on : (old new : Option Known) (mine : List Event) → KnowsMore old new → AllByRecursion (IsLogged old) mine → AllByRecursion (IsLogged new) mine
+logged_on old new [] more all = tt
+logged_on old new (event.Receipt r ∷ mine) more all = (tt, logged_on old new mine more all.1)
+logged_on old new (event.Entry e ∷ mine) more all = (
+  record {
+    covered = some_more (write_in e.kind) (λ (w : Writing). IsSomeAnd old (λ (a : Known). w.upto ≤ a.durable)) (λ (w : Writing). IsSomeAnd new (λ (a : Known). w.upto ≤ a.durable))
+        (λ w. knows_more (λ (a : Known). w.upto ≤ a.durable) old new (λ a b m le. let d = m.0 in omega (arith, d, le)) more) all.0.covered;
+    kept = some_more (change_in e.kind) (λ (c : Changing). IsSomeAnd old (λ (a : Known). Stands a c)) (λ (c : Changing). IsSomeAnd new (λ (a : Known). Stands a c))
+        (λ c. knows_more (λ (a : Known). Stands a c) old new (λ a b m is. (is.0, m.1 is.0 is.1, is.2, is.3)) more) all.0.kept;
+  },
+  logged_on old new mine more all.1,
+)

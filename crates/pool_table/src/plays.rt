@@ -1,0 +1,103 @@
+//! What each step tells its seat. The entry, receipt and frames of a step enter by a type parameter, and each call picks them.
+ghost use Rattle.std.specs.Prelude.{ℕ, Option, None};
+ghost use Rattle.trail.specs.declared.event.Entry.{Entry};
+ghost use Rattle.trail.specs.declared.event.Receipt.{Receipt};
+ghost use Rattle.frame_words.specs.Plain.{Plain};
+ghost use Rattle.redo_log.specs.Passes.{Known};
+ghost use Rattle.pool_table.specs.Told.{no_entry, no_frames, no_receipt, tells_append, tells_give, tells_look, tells_note, tells_take};
+ghost use Rattle.pool_table.specs.Views.{joined, made_pass, maker_after, nobody};
+
+use crate::view::{Held, Lodger, View};
+use atomic_table::{Join, Play, Split};
+use std::marker::{Brand, PhantomData};
+
+/// The entry that a step appends.
+pub trait Appended {
+    ghost entry: { Entry };
+}
+
+impl Appended for Brand {
+    ghost entry = { no_entry };
+}
+
+/// The receipt that a step leaves.
+pub trait Noted {
+    ghost receipt: { Receipt };
+}
+
+impl Noted for Brand {
+    ghost receipt = { no_receipt };
+}
+
+/// The desk's frames behind a step, what the caller's pass of the log knows then, and the place before the history.
+pub trait Shown {
+    ghost frames: { Plain };
+
+    ghost known: { Option Known };
+
+    ghost first: { ℕ };
+}
+
+impl Shown for Brand {
+    ghost frames = { no_frames };
+
+    ghost known = { None };
+
+    ghost first = { 0 };
+}
+
+/// A store of the mark.
+pub struct Append<E> {
+    of: PhantomData<E>,
+}
+
+impl<D: Lodger, E: Appended + Shown> Play<Held<D>, View> for Append<E> {
+    ghost then = { tells_append E.entry E.frames E.known };
+}
+
+/// A load of the mark that leaves a receipt.
+pub struct Note<E> {
+    of: PhantomData<E>,
+}
+
+impl<D: Lodger, E: Noted + Shown> Play<Held<D>, View> for Note<E> {
+    ghost then = { tells_note E.receipt E.frames E.known };
+}
+
+/// A load of the mark.
+pub struct Look<E> {
+    of: PhantomData<E>,
+}
+
+impl<D: Lodger, E: Shown> Play<Held<D>, View> for Look<E> {
+    ghost then = { tells_look E.first };
+}
+
+/// A compare and exchange of the turn, which takes the desk.
+pub struct Take;
+
+impl<D: Lodger> Play<Held<D>, View> for Take {
+    ghost then = { tells_take D.seen };
+}
+
+/// A store of the turn, which gives the desk back.
+pub struct Give;
+
+impl<D: Lodger> Play<Held<D>, View> for Give {
+    ghost then = { tells_give };
+}
+
+/// A pass comes from the first view, and a pass takes in another.
+pub struct Passes;
+
+impl Split<View> for Passes {
+    ghost left = { maker_after };
+
+    ghost right = { made_pass };
+}
+
+impl Join<View> for Passes {
+    ghost both = { joined };
+
+    ghost spent = { nobody };
+}

@@ -1,0 +1,17 @@
+pub mod Tests
+pub mod Places
+pub mod Calling
+pub mod Adding
+pub mod Same
+pub mod Owning
+pub mod Flush
+pub mod Following
+pub mod Whole
+pub mod Gathering
+pub mod Asking
+pub mod Appending
+pub mod Cleaning
+pub mod Refusing
+pub mod Noting
+pub mod Telling
+pub mod TwoCallers

@@ -1,0 +1,4 @@
+pub mod Accounts
+pub mod SoFar
+pub mod Adding
+pub mod Ending
