@@ -978,13 +978,18 @@ E 3 0.1 clean 0 -
     expect 'a log is made' 0 "$empty_trail" ''
     seen=$(grep -c "fsync([0-9]*<$work/case>) *= 0" calls)
     [ "$seen" = 1 ] && passed=$((passed + 1)) || { failed=$((failed + 1)); echo 'FAILED: the folder of a log that is made is not synced'; }
+    printf 'older bytes' >case/log
     traced '' -y -e trace=fsync
     seen=$(grep -c "fsync([0-9]*<$work/case>)" calls)
-    [ "$seen" = 0 ] && passed=$((passed + 1)) || { failed=$((failed + 1)); echo 'FAILED: the folder of a log that is there is synced'; }
+    [ "$seen" = 0 ] && passed=$((passed + 1)) || { failed=$((failed + 1)); echo 'FAILED: the folder of a log that holds bytes is synced'; }
     rm case/log
     traced '' -e trace=fsync -e inject=fsync:error=EIO:when=1
     : >want/log
     expect 'the folder of a log that is made fails' 6 '' $'innopool: device fault\n'
+    traced '' -y -e trace=fsync
+    expect 'the folder of a log that an earlier run made' 0 "$empty_trail" ''
+    seen=$(grep -c "fsync([0-9]*<$work/case>) *= 0" calls)
+    [ "$seen" = 1 ] && passed=$((passed + 1)) || { failed=$((failed + 1)); echo 'FAILED: the folder of a log that an earlier run made is not synced'; }
 }
 
 # Devices that fail once they are open.

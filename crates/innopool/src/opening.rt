@@ -38,7 +38,7 @@ pub fn open_tablespace(rt: &HostRuntime, name: &str) -> io::Result<(File, FileKe
     Ok((opened.try_clone()?, key_of(&about)))
 }
 
-/// Makes the entry of a file that was just made as durable as the file.
+/// Makes the entry of a file as durable as the file.
 fn sync_folder(rt: &HostRuntime, name: &str) -> io::Result<()> {
     let folder = match Path::new(name).parent() {
         Some(parent) if !parent.as_os_str().is_empty() => parent,
@@ -47,24 +47,24 @@ fn sync_folder(rt: &HostRuntime, name: &str) -> io::Result<()> {
     File::open(rt, folder)?.sync_all()
 }
 
-/// Opens the log for writing, and tells whether it was just made.
-fn open_or_make(rt: &HostRuntime, name: &str) -> io::Result<(File, bool)> {
+/// Opens the log for writing, and makes it where there is none. A link to nothing is refused.
+fn open_or_make(rt: &HostRuntime, name: &str) -> io::Result<File> {
     let mut options = OpenOptions::new();
     options.write(true);
     match options.create_new(true).open(rt, name) {
-        Ok(made) => Ok((made, true)),
         Err(error) if error.kind() == ErrorKind::AlreadyExists => {
-            Ok((options.create_new(false).open(rt, name)?, false))
+            options.create_new(false).open(rt, name)
         }
-        Err(error) => Err(error),
+        opened => opened,
     }
 }
 
-/// Opens a log for writing, and makes it where there is none; then its folder is synced. What it holds stays.
+/// Opens a log for writing, and makes it where there is none. What it holds stays. Where it holds nothing its folder is synced: it may just
+/// have been made, by this run or by one that came no further.
 ///
 /// It may be no block device, whose length isn't that of a log, nor the run's tablespace; and no other run may have it.
 pub fn open_log(rt: &HostRuntime, name: &str, tablespace: Option<FileKey>) -> io::Result<File> {
-    let (opened, is_new) = open_or_make(rt, name)?;
+    let opened = open_or_make(rt, name)?;
     let about = opened.metadata()?;
     let kind = about.file_type();
     if kind.is_block_device() || tablespace == Some(key_of(&about)) {
@@ -72,9 +72,9 @@ pub fn open_log(rt: &HostRuntime, name: &str, tablespace: Option<FileKey>) -> io
     }
     if kind.is_file() {
         opened.try_lock()?;
-    }
-    if is_new {
-        sync_folder(rt, name)?;
+        if about.len() == 0 {
+            sync_folder(rt, name)?;
+        }
     }
     opened.try_clone()
 }

@@ -1,7 +1,9 @@
 //! script_text: which texts are scripts and which line of the others is bad, what a script asks for, and the program's words.
 
 use page_ids::{Bytes, Config, PageId, PageSize};
-use script_text::{Command, Program, ScriptErr, WordsErr, command_of, print_script, read_script};
+use script_text::{
+    Command, Program, Script, ScriptErr, WordsErr, command_of, print_script, read_script,
+};
 use std::alloc::{AllocError, Global};
 use std::process::Abort;
 use std::test::Fail;
@@ -225,7 +227,7 @@ type Long = (
 );
 
 /// The most bytes of a put, the most calls and the longest scripts, and one more of each.
-const LONG: [Long; 10] = [
+const LONG: [Long; 11] = [
     (b"thread 1\nput 0:0 16120 ", b"5a", 256, b"", None),
     (b"thread 1\nput 0:0 38 ", b"5a", 257, b"", Some(2)),
     (b"thread 1\n", b"clean 0\n", 65536, b"# no call\n", None),
@@ -249,6 +251,13 @@ const LONG: [Long; 10] = [
         5,
         b"scan 1:0-1364 1\nclean 0\ncheckpoint\nscan",
         Some(9),
+    ),
+    (
+        b"instances 2\nthread 1\n",
+        b"clean 0\n",
+        32767,
+        b"checkpoint\ncheckpoint\n",
+        Some(32771),
     ),
     (b"", b"# fifteen bytes\n", 65536, b"", None),
     (b"", b"# fifteen bytes\n", 65536, b"\n", Some(0)),
@@ -392,6 +401,29 @@ fn what_is_printed(rt: HostRuntime) -> Result<(), Fail> {
         let twice = printed(alloc, want)?;
         assert_eq!(rt; twice.as_slice(), all.as_slice());
     }
+    Ok(())
+}
+
+/// The printed form of a script of two threads.
+const TWO_THREADS: &[u8] =
+    b".page 4096\ninstances 1\nframes 8\nsize 16385\nmax 3\nold_pct 5\nold_time 6\nold_min 7\nlsn 9\nfirst 0\n\
+    thread 1\nclean 7\nthread 2\ncheckpoint\nunfix 0:2\n";
+
+#[test]
+fn how_two_threads_are_printed(rt: HostRuntime) -> Result<(), Fail> {
+    let alloc = rt.alloc();
+    let page = PageId { space: 0, page: 2 };
+    let mut first = Vec::new(alloc);
+    first.push(Command::Clean { bound: 7 })?;
+    let mut second = Vec::new(alloc);
+    second.push(Command::Checkpoint)?;
+    second.push(Command::Unfix { page })?;
+    let mut threads = Vec::new(alloc);
+    threads.push(first)?;
+    threads.push(second)?;
+    let mut out = vec![in alloc; b'.'; 1]?;
+    print_script(&Script::of(CONFIG, threads), &mut out)?;
+    assert_eq!(rt; out.as_slice(), TWO_THREADS);
     Ok(())
 }
 

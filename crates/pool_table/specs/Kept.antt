@@ -55,12 +55,12 @@ pub record IsTrueAccount (log : TableId) (next : ℕ) (accounts : ℕ → List E
   pub log_is : IfSome a.redo (λ (k : Known). k.log ≡ log)
   pub logged : AllByRecursion (IsLogged a.redo) a.mine
 
--- (a) what a view knows of the mark and the turn
+-- what a view knows of the mark and the turn
 pub record Knows (h : List Entry) (frames : Plain) (t : ℕ) (v : View) : Type 0 where
   pub seen : (more : List Entry) × (h ≡ more ++ v.seen)
   pub turn : v.turn ≡ true → (v.passes ≡ true) × (t ≡ v.number + 1) × (v.seen ≡ h) × (v.frames ≡ Some frames)
 
--- (h) which accounts a view has
+-- which accounts a view has
 pub record Keeps (log : TableId) (next maker : ℕ) (accounts : ℕ → List Event) (seat : ℕ → ℕ) (j : ℕ) (v : View) : Type 0 where
   pub makes : v.makes ≡ true → (j ≡ maker) × (v.number ≡ next) × (v.passes ≡ false) × (v.others ≡ [])
   pub passes : v.passes ≡ true → (0 < v.parts) × IsTrueAccount log next accounts seat j (account_of v)
@@ -88,13 +88,13 @@ pub record Fits (log : TableId) (h : List Entry) (frames : Plain) (t next maker 
 abbrev pub Has : ℕ → View → Type 0
 Has k v = ((v.passes ≡ true) × (v.number ≡ k)) ⊎ ((i : ℕ) × (a : Account) × (get_elem? v.others i ≡ some a) × (a.number ≡ k))
 
--- (h) The history and the accounts are lawful, and each number that was given has its account at its seat; the others have none.
+-- The history and the accounts are lawful, and each number that was given has its account at its seat; the others have none.
 pub record AreLawful (start : DeskSeen) (h : List Entry) (next : ℕ) (accounts : ℕ → List Event) (seat : ℕ → ℕ) (views : List View) : Type 0 where
   pub so_far : IsLawfulSoFar start.opening start.pages h accounts
   pub later : (k : ℕ) → next ≤ k → accounts k ≡ []
   pub owned : (k : ℕ) → k < next → (v : View) × (get_elem? views (seat k) ≡ some v) × Has k v
 
--- (b), (d) The frames have the fixes that are open, and what the history says.
+-- The frames have the fixes that are open, and what the history says.
 pub record AreFrames (start : DeskSeen) (h : List Entry) (frames : Plain) (views : List View) : Type 0 where
   pub sums : (f : ℕ) → counted frames f ≡ total (fixed_in f) views
   pub homes : (f : ℕ) → IsOfHome start.opening h (row_of frames f) f
@@ -109,7 +109,7 @@ pub record IsAtHome (start d : DeskSeen) (h : List Entry) (frames : Plain) : Typ
   pub rest : IsAtRest frames
 
 module _ {D : Type 0} (seen : D → DeskSeen) (start : DeskSeen) where
-  -- (a) One history, whose last place is the mark. Without a turn the desk is in its slot; a turn is had by one view.
+  -- One history, whose last place is the mark. Without a turn the desk is in its slot; a turn is had by one view.
   pub record AreTurns (h : List Entry) (frames : Plain) (seat : ℕ → ℕ) (s : State (Held D) View) : Type 0 where
     pub wide : length s.words ≡ 2
     pub deep : length s.homes ≡ 1
@@ -127,7 +127,7 @@ module _ {D : Type 0} (seen : D → DeskSeen) (start : DeskSeen) where
     pub turns : AreTurns h frames seat s
     pub laws : AreLawful start h next accounts seat s.views
     pub framed : AreFrames start h frames s.views
-    -- (i) Words that were found are true wherever a caller is alone.
+    -- Words that were found are true wherever a caller is alone.
     pub words : AreTrueAlone h accounts
     pub each : (j : ℕ) (v : View) → get_elem? s.views j ≡ some v → Fits start.log h frames (slice_index s.words 1) next maker accounts seat j v
     pub whole : total parts_of s.views ≡ 64

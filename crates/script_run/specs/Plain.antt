@@ -6,6 +6,7 @@ use Rattle.script_text.specs.Plan.{Plan}
 use Rattle.script_text.specs.Printed.{plan_text}
 use Rattle.script_text.specs.Verdict.{IsScript, IsBad}
 use Rattle.script_text.specs.declared.program.Program.{Program}
+use Rattle.script_text.specs.declared.program.Program.TheVariants.{Check}
 use Rattle.script_run.specs.Ends.{IsTakenWithin}
 use Rattle.script_run.specs.Runs.{IsNoScript}
 use Rattle.script_run.specs.declared.outcome.Plain.{Plain}
@@ -38,10 +39,14 @@ pub record IsChecked (old new : Streams) (end : Plain) : Type 0 where
   pub read_fault : end.status ≡ 4 → Rose old.reads_failed new.reads_failed
   pub write_fault : end.status ≡ 5 → Rose old.writes_failed new.writes_failed
 
--- The words call for nothing, or for `check`, which then ended so; or there was no memory to read them. Of the input a beginning was taken.
+-- no command was called for
+abbrev pub CallsNothing : List (List ℕ) → Type 0
+CallsNothing words = (p : Program) → IsCalled words p → ⊥
+
+-- The words call for nothing, or for a command, which then ended so; or there was no memory to read them. Of the input a beginning was taken.
 pub record IsPlainEnd (words : List (List ℕ)) (old new : Streams) (end : Plain) : Type 0 where
-  pub usage : end.status ≡ 2 → (p : Program) → IsCalled words p → ⊥
-  pub usage_only : ((p : Program) → IsCalled words p → ⊥) → (end.status ≡ 2) ⊎ (end.status ≡ 7)
+  pub usage : end.status ≡ 2 → CallsNothing words
+  pub usage_only : CallsNothing words → (end.status ≡ 2) ⊎ (end.status ≡ 7)
   pub line : end.status ≢ 3 → end.line ≡ 0
-  pub checked : (end.status ≡ 2) ⊎ (end.status ≡ 7) ⊎ IsChecked old new end
+  pub checked : IsCalled words Check → (end.status ≡ 7) ⊎ IsChecked old new end
   pub taken : IsTakenWithin 0 1048577 old.left new.left

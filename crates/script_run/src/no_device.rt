@@ -1,6 +1,7 @@
 //! The commands that use neither a tablespace nor a log.
 ghost use Rattle.std.specs.Prelude.{◌≡◌, ◌++◌, ◌⊎◌, ℕ, List, Some, MatchOption, IfSome, IfNone, map, string_bytes, take};
 ghost use Rattle.page_ids.specs.Faults.{Rose};
+ghost use Rattle.script_text.specs.CommandLine.{IsCalled};
 ghost use Rattle.script_text.specs.Printed.{plan_text};
 ghost use Rattle.script_run.specs.Runs.{AreRun, IsSilent};
 ghost use Rattle.script_run.specs.Ends.{IsTakenWithin};
@@ -64,7 +65,7 @@ pub fn plain<S: Source, K: Sink>(
     ensures ended { IfSome result (IsPlainEnd (map string_bytes words.now)
         (streams (S.left input.old) (S.fault_count input.old) (K.held out.old) (K.fault_count out.old))
         (streams (S.left input.new) (S.fault_count input.new) (K.held out.new) (K.fault_count out.new))) }
-    ensures unread { MatchOption result (input.new ≡ input.old) (λ p. p.status ≡ 2 → input.new ≡ input.old) }
+    ensures unread { (IsCalled (map string_bytes words.now) Program.Check → ⊥) → input.new ≡ input.old }
     ensures unwritten { MatchOption result (out.new ≡ out.old) (λ p. IsSilent p.status → out.new ≡ out.old) }
 {
     match command_of(alloc, words) {

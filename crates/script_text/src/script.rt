@@ -68,7 +68,7 @@ impl Script {
     }
 
     /// The commands of each thread.
-    pub(crate) fn threads(&self) -> &[Vec<Command>]
+    pub fn threads(&self) -> &[Vec<Command>]
         ensures { map (λ t. t.items) result.now ≡ self.now.threads }
     {
         self.threads.as_slice()
