@@ -1,5 +1,5 @@
 -- An entry and a receipt of the pass that has the turn keep the rule.
-use Rattle.std.proofs.Common.{◌≡◌, ◌≢◌, ◌⊎◌, ⊎_elim, ℕ, ◌+◌, ◌<◌, ◌≤◌, Bool, true, false, List, [], ◌∷◌, Option, None, Some, IfSome, refl, sym, ap, ◌∙◌, subst, arith, nat_lt, get_or}
+use Rattle.std.proofs.Common.{◌≡◌, ◌≢◌, ◌⊎◌, inr, ⊎_elim, ℕ, ◌+◌, ◌<◌, ◌≤◌, Bool, true, false, List, [], ◌∷◌, Option, None, Some, IfSome, refl, sym, ap, ◌∙◌, subst, arith, nat_lt, get_or}
 use Rattle.std.proofs.lemmas.Bool.Decides.{nat_tests}
 use Rattle.std.specs.List.{AllByRecursion}
 use mathlib.Core.Option.{some, none}
@@ -18,25 +18,29 @@ use Rattle.trail.specs.Alone.{IsTrueOf, is_of_flush}
 use Rattle.trail.specs.Calls.{held_after, newest_fix, open_fixes}
 use Rattle.trail.specs.History.{home}
 use Rattle.trail.specs.Kinds.{Placing, departure_in}
-use Rattle.trail.specs.Trails.{caller_of, mark}
+use Rattle.trail.specs.Trails.{Opening, caller_of, mark}
 use Rattle.trail_laws.specs.Accounts.{place_of, seen_by, with_event}
 use Rattle.trail_laws.specs.Adding.{IsCalling, MayAdd, MayNote, next_entry, next_note}
 use Rattle.trail_laws.specs.SoFar.{AreAlone, AreTrueAlone, IsFree, IsLawfulSoFar, IsTrueBy, is_of_clean}
+use Rattle.trail_laws.specs.Ending.{AreEndedSoFar, FollowsNewest, below_newest}
 use Rattle.trail_laws.proofs.Adding.{entry_added, note_added}
+use Rattle.trail_laws.proofs.Following.{AreOthers, ended_entry, ended_note}
 use Rattle.trail_laws.proofs.Places.{all_below, each_more, seen_next, seen_now}
 use Rattle.frame_words.specs.Plain.{Plain}
 use Rattle.pool_table.specs.declared.view.Account.{Account}
-use Rattle.pool_table.specs.declared.view.Held.{Held}
+use Rattle.pool_table.specs.declared.view.Slot.{Slot}
 use Rattle.pool_table.specs.declared.view.View.{View}
 use Rattle.pool_table.specs.Seen.{DeskSeen}
 use Rattle.pool_table.specs.Views.{appended, fixes_of, noted}
 use Rattle.pool_table.specs.Frames.{counted, fixes_in}
-use Rattle.pool_table.specs.Kept.{IsLogged, Kept, fixed_in}
-use Rattle.pool_table.specs.Steps.{IsFoundOn, KnowsMore, MayMake, MayShow}
+use Rattle.pool_table.specs.Kept.{fixed_in, IsLogged, IsNewestOf, IsRested, Kept}
+use Rattle.pool_table.specs.Logged.{KnowsMore}
+use Rattle.pool_table.specs.Steps.{IsFoundOn, MayMake, MayShow}
 use Rattle.pool_table.specs.Told.{tells_append, tells_note}
 use Rattle.pool_table.proofs.Lists.{total_alone, total_one}
 use Rattle.pool_table.proofs.Fixes.{unheld}
 use Rattle.pool_table.proofs.Events.{none_open, off, some_more, with_here, with_else, words_added}
+use Rattle.pool_table.proofs.Closing.{entry_follows, note_rests}
 use Rattle.pool_table.proofs.Keeps.{evented}
 
 below_is : (m n : ℕ) → nat_lt m n ≡ true → m < n
@@ -45,12 +49,27 @@ below_is m n t = grind (arith, nat_tests)
 above_is : (m n : ℕ) → nat_lt m n ≡ false → n ≤ m
 above_is m n t = grind (arith, nat_tests)
 
+-- What may be added to a history beside the caller's own account may be made, where the frame of a page that leaves or moves has no fix.
+pub may_make : (o : Opening) (pages : ℕ → ℕ) (h : List Entry) (frames : Plain) (accounts : ℕ → List Event) (c n : ℕ) (k : Kind) → MayAdd o pages h accounts c n k
+    → IfSome (departure_in k) (λ (d : Placing). (home h d.page ≡ Some d.frame) × (counted frames d.frame ≡ 0)) → MayMake o pages h frames (accounts c) c n k
+may_make o pages h frames accounts c n k may unfixed = record {
+  together = may.together;
+  before = may.before;
+  kind = may.kind;
+  covered = may.covered;
+  causes = may.causes;
+  victim = may.victim;
+  withdrawal = may.withdrawal;
+  spaces = may.spaces;
+  unfixed = unfixed;
+}
+
 module _ (D : Type 0) (seen : D → DeskSeen) (start : DeskSeen) where
   abbrev St : Type 0
-  St = State (Held D) View
+  St = State (Slot D) View
 
   abbrev M : Type 0
-  M = Me (Held D) View
+  M = Me (Slot D) View
 
   -- Nobody has fixed a page in whose frame no fix is counted.
   pub free_page : (s : St) (r : Kept seen start s) (p : PageId) (f : ℕ) → home r.h p ≡ Some f → counted r.frames f ≡ 0 → IsFree r.accounts p
@@ -102,20 +121,24 @@ module _ (D : Type 0) (seen : D → DeskSeen) (start : DeskSeen) where
       }
 
   -- Append: the entry of the pass that has the turn comes in front.
-  pub appends : (slots id : ℕ) (me : M) (n : ℕ) (pending : List Entry) (kind : Kind) (old g : Plain) (k : Option Known) → me.0.turn ≡ true → me.0.frames ≡ Some old → IsCalling me.0.mine n pending
+  pub appends : (slots id : ℕ) (me : M) (n : ℕ) (pending : List Entry) (kind : Kind) (old g : Plain) (k : Known) → me.0.turn ≡ true → me.0.frames ≡ Some old → IsCalling me.0.mine n pending
       → MayMake start.opening start.pages me.0.seen old me.0.mine me.0.number n kind → IsFoundOn me.0.seen old (event.Entry (next_entry start.opening.first me.0.seen me.0.number n kind))
       → MayShow start.opening me.0.seen (next_entry start.opening.first me.0.seen me.0.number n kind ∷ me.0.seen) old g (fixes_of me.0)
       (held_after (event.Entry (next_entry start.opening.first me.0.seen me.0.number n kind)) (fixes_of me.0))
-      → KnowsMore me.0.redo k → IfSome k (λ (known : Known). known.log ≡ start.log) → IsLogged k (event.Entry (next_entry start.opening.first me.0.seen me.0.number n kind))
+      → KnowsMore me.0.redo (Some k) → IsLogged (Some k) (event.Entry (next_entry start.opening.first me.0.seen me.0.number n kind))
+      → AreOthers (event.Entry (next_entry start.opening.first me.0.seen me.0.number n kind)) (below_newest me.0.seen)
+      → (IsNewestOf me.0.number me.0.seen → FollowsNewest (λ c. event.Entry (next_entry start.opening.first me.0.seen me.0.number n kind) ∷ me.0.mine) (Some (next_entry start.opening.first me.0.seen me.0.number n kind)) me.0.seen)
       → Allows (Kept seen start) slots id me 0 (λ _. mark start.opening.first me.0.seen + 1)
       (λ _. tells_append (next_entry start.opening.first me.0.seen me.0.number n kind) g k (step slots 0 (mark start.opening.first me.0.seen + 1) 0 none) me (mark start.opening.first me.0.seen + 1))
-  appends slots id me n pending kind old g k has framed calling may found show knows log_is logged s r _ at _ =
+  appends slots id me n pending kind old g k has framed calling may found show knows logged others follows s r _ at _ =
       let v : View = me.0 in let o = start.opening in let b = r.each id v at in let mine = b.knows.turn has in let own = (b.keeps.passes mine.0).1 in
       let e : Entry = next_entry o.first v.seen v.number n kind in
       let x : Event = event.Entry e in
       let olds : old ≡ r.frames = let e : Some old ≡ Some r.frames = sym framed ∙ mine.3 in cc in
       let so : IsLawfulSoFar o start.pages v.seen r.accounts = subst (λ (l : List Entry). IsLawfulSoFar o start.pages l r.accounts) (sym mine.2) r.laws.so_far in
       let words : AreTrueAlone v.seen r.accounts = subst (λ (l : List Entry). AreTrueAlone l r.accounts) (sym mine.2) r.words in
+      let ended : AreEndedSoFar r.accounts v.seen = subst (AreEndedSoFar r.accounts) (sym mine.2) r.laws.ended in
+      let rested : IsRested r.accounts v.seen (get_or s.words 1 0) = subst (λ (l : List Entry). IsRested r.accounts l (get_or s.words 1 0)) (sym mine.2) r.rested in
       let found' : IsFoundOn r.h r.frames x = subst (λ (y : List Entry × Plain). IsFoundOn y.0 y.1 x) (λ i. (mine.2 i, olds i)) found in
       let may' : MayMake o start.pages v.seen old (r.accounts v.number) v.number n kind = subst (λ (l : List Event). MayMake o start.pages v.seen old l v.number n kind) (sym own.events) may in
       let below : (d : ℕ) → AllByRecursion (λ y. place_of y < e.place) (r.accounts d) = λ d. all_below (mark o.first v.seen) e.place (r.accounts d) (omega arith) (so.places.each d).falling in
@@ -139,17 +162,17 @@ module _ (D : Type 0) (seen : D → DeskSeen) (start : DeskSeen) where
         appended v e g k,
         keeps,
         tt,
-        evented D seen start s r id me.1 v x (e ∷ v.seen) (e ∷ []) old g k e.place at has framed refl refl refl so' words' show knows log_is logged,
+        evented D seen start s r id me.1 v x (e ∷ v.seen) (e ∷ []) old g k e.place at has framed refl refl refl so' words' show knows logged (ended_entry e v.seen r.accounts others (entry_follows v.seen r.accounts x v.number v.mine e (get_or s.words 1 0) refl own.events mine.1 rested follows) ended) (inr (v.number, mine.1, refl)),
         refl,
       )
 
   -- Load the mark, and leave a receipt with that place.
-  pub notes : (slots id : ℕ) (me : M) (n : ℕ) (pending : List Entry) (note : Note) (old g : Plain) (k : Option Known) → me.0.turn ≡ true → me.0.frames ≡ Some old → IsCalling me.0.mine n pending
+  pub notes : (slots id : ℕ) (me : M) (n : ℕ) (pending : List Entry) (note : Note) (old g : Plain) (k : Known) → me.0.turn ≡ true → me.0.frames ≡ Some old → IsCalling me.0.mine n pending
       → MayNote start.opening start.pages me.0.seen me.0.mine me.0.number n note → IsFoundOn me.0.seen old (event.Receipt (next_note start.opening.first me.0.seen me.0.number n note))
       → MayShow start.opening me.0.seen me.0.seen old g (fixes_of me.0) (held_after (event.Receipt (next_note start.opening.first me.0.seen me.0.number n note)) (fixes_of me.0))
-      → KnowsMore me.0.redo k → IfSome k (λ (known : Known). known.log ≡ start.log)
+      → KnowsMore me.0.redo (Some k) → AreOthers (event.Receipt (next_note start.opening.first me.0.seen me.0.number n note)) (below_newest me.0.seen)
       → Allows (Kept seen start) slots id me 0 (λ n. n) (tells_note (next_note start.opening.first me.0.seen me.0.number n note) g k (step slots 0 0 0 none) me)
-  notes slots id me n pending note old g k has framed calling may found show knows log_is s r _ at _ =
+  notes slots id me n pending note old g k has framed calling may found show knows others s r _ at _ =
       let v : View = me.0 in let o = start.opening in let b = r.each id v at in let mine = b.knows.turn has in let own = (b.keeps.passes mine.0).1 in
       let e : Receipt = next_note o.first v.seen v.number n note in
       let x : Event = event.Receipt e in
@@ -157,6 +180,8 @@ module _ (D : Type 0) (seen : D → DeskSeen) (start : DeskSeen) where
       let marked : get_or s.words 0 0 ≡ mark o.first v.seen = r.turns.mark_is ∙ ap (mark o.first) (sym mine.2) in
       let so : IsLawfulSoFar o start.pages v.seen r.accounts = subst (λ (l : List Entry). IsLawfulSoFar o start.pages l r.accounts) (sym mine.2) r.laws.so_far in
       let words : AreTrueAlone v.seen r.accounts = subst (λ (l : List Entry). AreTrueAlone l r.accounts) (sym mine.2) r.words in
+      let ended : AreEndedSoFar r.accounts v.seen = subst (AreEndedSoFar r.accounts) (sym mine.2) r.laws.ended in
+      let rested : IsRested r.accounts v.seen (get_or s.words 1 0) = subst (λ (l : List Entry). IsRested r.accounts l (get_or s.words 1 0)) (sym mine.2) r.rested in
       let found' : IsFoundOn r.h r.frames x = subst (λ (y : List Entry × Plain). IsFoundOn y.0 y.1 x) (λ i. (mine.2 i, olds i)) found in
       let so' : IsLawfulSoFar o start.pages v.seen (with_event x r.accounts) =
       note_added o start.pages v.seen r.accounts v.number n pending note so (subst (λ (l : List Event). IsCalling l n pending) (sym own.events) calling)
@@ -167,6 +192,6 @@ module _ (D : Type 0) (seen : D → DeskSeen) (start : DeskSeen) where
         noted v e g k,
         keeps,
         tt,
-        evented D seen start s r id me.1 v x v.seen [] old g k (get_or s.words 0 0) at has framed refl refl marked so' words' show knows log_is tt,
+        evented D seen start s r id me.1 v x v.seen [] old g k (get_or s.words 0 0) at has framed refl refl marked so' words' show knows tt (ended_note x v.seen r.accounts others ended) (note_rests v.seen r.accounts x v.number (get_or s.words 1 0) refl mine.1 rested),
         (refl, marked),
       )

@@ -1,40 +1,45 @@
 -- Once a pass has all parts it has all accounts, and what is merged from them and the history is a lawful trail.
-use Rattle.std.proofs.Common.{◌≡◌, ◌≢◌, ◌⊎◌, inl, inr, ⊎_elim, ℕ, zero, suc, ◌<◌, ◌≤◌, Bool, true, false, cond, List, [], ◌∷◌, refl, sym, ap, ◌∙◌, subst, arith, get_or, nat_eq, nat_lt, eq-eqb}
+use Rattle.std.proofs.Common.{◌≡◌, ◌≢◌, ◌⊎◌, inl, inr, ⊎_elim, ℕ, zero, suc, ◌+◌, ◌<◌, ◌≤◌, Bool, true, false, cond, List, [], ◌∷◌, None, Some, refl, sym, ap, ◌∙◌, subst, arith, get_or, nat_eq, nat_lt, eq-eqb}
 use Rattle.std.proofs.lemmas.Bool.Decides.{nat_tests}
 use Rattle.std.specs.Prelude.{reverse}
 use mathlib.Core.Option.{some, some-injective, some-ne-none}
 use mathlib.Core.Logic.{dite}
 use native.Mathlib.Decide.{ℕ_discrete}
 use lib.ListN.{get_elem?}
-use Rattle.atomic_table.specs.Seated.{TableId}
 use Rattle.atomic_table.specs.Table.{State}
+use Rattle.redo_log.specs.Passes.{Known}
 use Rattle.trail.specs.declared.event.Entry.{Entry}
 use Rattle.trail.specs.declared.event.Event.{Event}
 use Rattle.trail.specs.Laws.{IsLawfulTrail}
 use Rattle.trail.specs.Trails.{own}
-use Rattle.trail_laws.specs.Ending.{AreDone, IsTrailOf}
+use Rattle.trail_laws.specs.Ending.{AreEnded, FollowsNewest, IsAnswered, IsTrailOf}
 use Rattle.trail_laws.specs.SoFar.{AreTrueAlone, IsLawfulSoFar}
+use Rattle.trail_laws.proofs.Following.{ended_all}
 use Rattle.trail_laws.proofs.Same.{same_so_far, same_true}
 use Rattle.trail_laws.proofs.Owning.{own_account}
 use Rattle.trail_laws.proofs.Whole.{merged_lawful}
 use Rattle.frame_words.specs.Plain.{Plain}
 use Rattle.pool_table.specs.declared.view.Account.{Account}
-use Rattle.pool_table.specs.declared.view.Held.{Held}
-use Rattle.pool_table.specs.declared.view.Held.TheVariants as slot
+use Rattle.pool_table.specs.declared.view.Slot.{Slot}
+use Rattle.pool_table.specs.declared.view.Slot.TheVariants as slot
 use Rattle.pool_table.specs.declared.view.View.{View}
 use Rattle.pool_table.specs.Seen.{DeskSeen}
+use Rattle.pool_table.specs.Logged.{KnowsMore}
 use Rattle.pool_table.specs.Views.{account_of, accounts_if, accounts_of}
 use Rattle.pool_table.specs.Ending.{Ends, account_at}
-use Rattle.pool_table.specs.Kept.{parts_of, IsTrueAccount, Fits, Has, Kept}
+use Rattle.pool_table.specs.Kept.{parts_of, IsTrueAccount, Fits, Has, IsNewestOf, IsRested, Kept}
 use Rattle.pool_table.proofs.Lists.{total_two}
-use Rattle.pool_table.proofs.Seats.{brought_has}
+use Rattle.pool_table.proofs.Closing.{same_ended}
+use Rattle.pool_table.proofs.Events.{logged_on}
+use Rattle.pool_table.proofs.Numbers.{others_none}
+use Rattle.pool_table.proofs.Seats.{brought_apart, brought_has}
 
 -- the accounts that a view brings are the truth
-true_of : (log : TableId) (h : List Entry) (frames : Plain) (t next maker : ℕ) (accounts : ℕ → List Event) (seat : ℕ → ℕ) (j : ℕ) (v : View) → Fits log h frames t next maker accounts seat j v
-    → (b : Bool) → v.passes ≡ b → (i : ℕ) (a : Account) → get_elem? (accounts_if b v) i ≡ some a → IsTrueAccount log next accounts seat j a
-true_of log h frames t next maker accounts seat j v f true is zero a e = subst (IsTrueAccount log next accounts seat j) (some-injective (account_of v) a e) (f.keeps.passes is).1
-true_of log h frames t next maker accounts seat j v f true is (suc i) a e = (f.keeps.others i a e).0
-true_of log h frames t next maker accounts seat j v f false is i a e = (f.keeps.others i a e).0
+true_of : (known : Known) (h : List Entry) (frames : Plain) (t next maker : ℕ) (accounts : ℕ → List Event) (seat : ℕ → ℕ) (j : ℕ) (v : View) → Fits known h frames t next maker accounts seat j v
+    → (b : Bool) → v.passes ≡ b → (i : ℕ) (a : Account) → get_elem? (accounts_if b v) i ≡ some a → IsTrueAccount known next accounts seat j a
+true_of known h frames t next maker accounts seat j v f true is zero a e = subst (IsTrueAccount known next accounts seat j) (some-injective (account_of v) a e) (f.keeps.passes is).1
+true_of known h frames t next maker accounts seat j v f true is (suc i) a e = (f.keeps.others i a e).0
+true_of known h frames t next maker accounts seat j v f false is i a e = (f.keeps.others i a e).0
 
 -- a look-up among true accounts finds a caller's events
 looked_up : (all : ℕ → List Event) (c : ℕ) (list : List Account) → ((i : ℕ) (a : Account) → get_elem? list i ≡ some a → all a.number ≡ a.mine)
@@ -59,9 +64,9 @@ looked_up all c (b ∷ list) each is = cases (nat_eq b.number c) refl (λ n. loo
 
 module _ (D : Type 0) (seen : D → DeskSeen) (start : DeskSeen) where
   -- A view with all parts has every account.
-  pub has_accounts : (s : State (Held D) View) (r : Kept seen start s) (id : ℕ) (v : View) → get_elem? s.views id ≡ some v → v.parts ≡ 64 → (c : ℕ) → account_at (accounts_of v) c ≡ r.accounts c
+  pub has_accounts : (s : State (Slot D) View) (r : Kept seen start s) (id : ℕ) (v : View) → get_elem? s.views id ≡ some v → v.parts ≡ 64 → (c : ℕ) → account_at (accounts_of v) c ≡ r.accounts c
   has_accounts s r id v at all c = looked_up r.accounts c (accounts_of v)
-      (λ i a e. (true_of start.log r.h r.frames (get_or s.words 1 0) r.next r.maker r.accounts r.seat id v (r.each id v at) v.passes refl i a e).events) (found (nat_lt c r.next) refl)
+      (λ i a e. (true_of r.known r.h r.frames (get_or s.words 1 0) r.next r.maker r.accounts r.seat id v (r.each id v at) v.passes refl i a e).events) (found (nat_lt c r.next) refl)
     where
       nobody_else : (j : ℕ) (u : View) → j ≢ id → get_elem? s.views j ≡ some u → u.parts ≡ 0
       nobody_else j u n there = let two = total_two parts_of s.views j id u v n there at in let w = r.whole in omega (arith, two, w, all)
@@ -80,36 +85,49 @@ module _ (D : Type 0) (seen : D → DeskSeen) (start : DeskSeen) where
       found true t = inl (brought_has c v v.passes refl (here (let lt : c < r.next = grind (arith, nat_tests) in lt)))
       found false t = inr (r.laws.later c (let le : r.next ≤ c = grind (arith, nat_tests) in le))
 
-  -- Where all parts were joined and nobody has the turn, the desk in its slot and that view have all.
-  pub ends : (s : State (Held D) View) → Kept seen start s → (id : ℕ) (v : View) → get_elem? s.views id ≡ some v → v.parts ≡ 64 → get_or s.words 1 0 ≡ 0
+  -- Nobody else has the turn, then.
+  none_turned : (s : State (Slot D) View) → Kept seen start s → (id : ℕ) (v : View) → get_elem? s.views id ≡ some v → v.parts ≡ 64 → v.turn ≡ false → (t : ℕ) → get_or s.words 1 0 ≡ t → t ≡ 0
+  none_turned s r id v at all off zero is = refl
+  none_turned s r id v at all off (suc k) is = let h = r.turns.held k (is ∙ omega arith) in dite (ℕ_discrete (r.seat k) id)
+      (λ e. let here : h.0 ≡ v = some-injective h.0 v (sym h.1 ∙ (ap (get_elem? s.views) e ∙ at)) in let no : true ≡ false = sym h.2 ∙ (ap (λ (u : View). u.turn) here ∙ off) in absurd (cc))
+      (λ n. let b = r.each (r.seat k) h.0 h.1 in let has = (b.keeps.passes (b.knows.turn h.2).0).0 in
+      let two = total_two parts_of s.views (r.seat k) id h.0 v n h.1 at in let w = r.whole in absurd (omega (arith, two, w, all, has)))
+
+  -- Where all parts were joined, the desk in its slot and that view have all.
+  pub ends : (s : State (Slot D) View) → Kept seen start s → (id : ℕ) (v : View) → get_elem? s.views id ≡ some v → v.parts ≡ 64 → v.turn ≡ false
       → (d : D) × (get_elem? s.homes 0 ≡ some (some (slot.Desk d))) × Ends start (seen d) v
-  ends s r id v at all free =
+  ends s r id v at all off =
+      let free : get_or s.words 1 0 ≡ 0 = none_turned s r id v at all off (get_or s.words 1 0) refl in
+      let at_rest : IsRested r.accounts r.h (get_or s.words 1 0) → FollowsNewest r.accounts None r.h = λ z. ⊎_elim (λ (x : FollowsNewest r.accounts None r.h). x) (λ (y : (k : ℕ) × (get_or s.words 1 0 ≡ k + 1) × IsNewestOf k r.h). let n = y.1 in absurd (omega (arith, n, free))) z in
       let f = r.turns.free free in let d = f.0 in let home = f.2 in
       let is = has_accounts s r id v at all in
+      let all_apart = brought_apart r.known r.h r.frames (get_or s.words 1 0) r.next r.maker r.accounts r.seat id v (r.each id v at) in
       let mine : ℕ → List Event = account_at (accounts_of v) in
-      let each = true_of start.log r.h r.frames (get_or s.words 1 0) r.next r.maker r.accounts r.seat id v (r.each id v at) v.passes refl in (
+      let each = true_of r.known r.h r.frames (get_or s.words 1 0) r.next r.maker r.accounts r.seat id v (r.each id v at) v.passes refl in (
         d,
         f.1,
         record {
-          home = record { history = refl; frames_are = refl; opening = home.opening; pages = home.pages; log = home.log; rest = subst Rattle.pool_table.specs.Frames.IsAtRest (sym home.frames_are) home.rest };
+          home = record { history = refl; frames_are = refl; opening = home.opening; pages = home.pages; known_is = refl; rest = subst Rattle.pool_table.specs.Frames.IsAtRest (sym home.frames_are) home.rest };
           lawful = subst (λ (l : List Entry). IsLawfulSoFar start.opening start.pages l mine) (sym home.history) (same_so_far start.opening start.pages r.h r.accounts mine is r.laws.so_far);
+          callers = record { apart = all_apart v.passes refl; others = others_none (accounts_of v) };
+          ended = subst (AreEnded mine None) (sym home.history) (same_ended None r.h r.accounts mine is (ended_all r.h r.accounts (at_rest r.rested) r.laws.ended));
           words = subst (λ (l : List Entry). AreTrueAlone l mine) (sym home.history) (same_true r.h r.accounts mine is r.words);
-          log_is = λ i a e. (each i a e).log_is;
-          logged = λ i a e. (each i a e).logged;
+          log = ap (λ (x : Known). x.log) home.known_is ∙ r.of_log;
+          logged = λ i a e. let is = each i a e in logged_on a.redo (Some (seen d).known) a.mine (subst (λ (x : Known). KnowsMore a.redo (Some x)) (sym home.known_is) is.redo) is.logged;
         },
       )
 
 -- What is merged from that history and these accounts is a lawful trail, and each caller's own events in it are its account's.
-pub merges : (start d : DeskSeen) (v : View) (past : List Event) → Ends start d v → IsTrailOf start.opening.first d.history (account_at (accounts_of v)) past → AreDone start.opening d.history (account_at (accounts_of v))
+pub merges : (start d : DeskSeen) (v : View) (past : List Event) → Ends start d v → IsTrailOf start.opening.first d.history (account_at (accounts_of v)) past → ((c : ℕ) → IsAnswered start.opening d.history c (account_at (accounts_of v) c))
     → IsLawfulTrail start.opening (record { first = start.opening.first; events = reverse past }) × ((c : ℕ) → own c past ≡ account_at (accounts_of v) c)
 merges start d v past e merged done = (
-  merged_lawful start.opening start.pages d.history (account_at (accounts_of v)) past merged e.lawful e.words done,
+  merged_lawful start.opening start.pages d.history (account_at (accounts_of v)) past merged e.lawful e.words (record { answered = done; followed = e.ended }),
   own_account start.opening.first d.history (account_at (accounts_of v)) past merged e.lawful.places.each,
 )
 
 -- Of two passes with different numbers each has its own events in the trail.
 pub two_merge : (start d : DeskSeen) (v : View) (a b : Account) (past : List Event) → accounts_of v ≡ a ∷ b ∷ [] → a.number ≢ b.number → Ends start d v
-    → IsTrailOf start.opening.first d.history (account_at (accounts_of v)) past → AreDone start.opening d.history (account_at (accounts_of v))
+    → IsTrailOf start.opening.first d.history (account_at (accounts_of v)) past → ((c : ℕ) → IsAnswered start.opening d.history c (account_at (accounts_of v) c))
     → IsLawfulTrail start.opening (record { first = start.opening.first; events = reverse past }) × (own a.number past ≡ a.mine) × (own b.number past ≡ b.mine)
 two_merge start d v a b past two apart e merged done =
     let m = merges start d v past e merged done in

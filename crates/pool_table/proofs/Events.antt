@@ -15,13 +15,13 @@ use Rattle.trail.specs.declared.event.Note.{Note}
 use Rattle.trail.specs.declared.event.Note.TheVariants as note
 use Rattle.trail.specs.Alone.{is_of_flush}
 use Rattle.trail.specs.Calls.{held_after_kind, held_after_note, open_fixes}
-use Rattle.trail.specs.Kinds.{Changing, Writing, change_in, write_in}
+use Rattle.trail.specs.Kinds.{Writing, write_in}
 use Rattle.trail.specs.Trails.{caller_of}
 use Rattle.trail_laws.specs.Accounts.{seen_by, with_event}
 use Rattle.trail_laws.specs.SoFar.{AreAlone, AreTrueAlone, AreTrueBy, IsTrueBy, is_of_clean}
 use Rattle.trail_laws.proofs.Places.{with_each}
-use Rattle.pool_table.specs.Kept.{IsLogged, Stands}
-use Rattle.pool_table.specs.Steps.{KnowsMore}
+use Rattle.pool_table.specs.Logged.{HasGone, KnowsMore, log_end_in, record_in}
+use Rattle.pool_table.specs.Kept.{IsLogged}
 
 pub off : {A : Type 0} → false ≡ true → A
 off e = absurd (true≢false (sym e))
@@ -87,13 +87,25 @@ none_open c d flush (event.Receipt r ∷ mine) n own all = ⊎_elim
     (λ (t : (is_of_flush flush (event.Receipt r) ≡ true) × (is_of_clean (event.Receipt r) ≡ true)). notes_none r.number r.note (open_fixes mine) t.1 ∙ none_open c d flush mine n own.1 all.1)
     (λ (s : r.caller ≡ c). absurd (n (sym own.0 ∙ s))) all.0
 
+-- A pass of the log knows at least what it knew.
+pub has_gone : (a : Known) → HasGone a a
+has_gone a = record { log = refl; end = omega arith; durable = omega arith; pieces = λ p is. is }
+
+pub gone_on : (old : Option Known) (a b : Known) → KnowsMore old (Some a) → HasGone a b → KnowsMore old (Some b)
+gone_on None a b more on = tt
+gone_on (Some o) a b more on = record {
+  log = on.log ∙ more.log;
+  end = let x = more.end in let y = on.end in omega (arith, x, y);
+  durable = let x = more.durable in let y = on.durable in omega (arith, x, y);
+  pieces = λ p is. on.pieces p (more.pieces p is);
+}
+
 -- What the log had of a caller's entries it has where its pass knows more.
 pub some_more : {A : Type 0} (o : Option A) (P Q : A → Type 0) → ((a : A) → P a → Q a) → IfSome o P → IfSome o Q
 some_more None P Q f x = x
 some_more (Some a) P Q f x = f a x
 
-knows_more : (P : Known → Type 0) (old new : Option Known) → ((a b : Known) → (a.durable ≤ b.durable) × ((p : Piece) → Contains a.pieces p → Contains b.pieces p) → P a → P b) → KnowsMore old new
-    → IsSomeAnd old P → IsSomeAnd new P
+knows_more : (P : Known → Type 0) (old new : Option Known) → ((a b : Known) → HasGone a b → P a → P b) → KnowsMore old new → IsSomeAnd old P → IsSomeAnd new P
 knows_more P None new f more is = absurd is
 knows_more P (Some a) None f more is = absurd more
 knows_more P (Some a) (Some b) f more is = f a b more is
@@ -104,9 +116,11 @@ logged_on old new (event.Receipt r ∷ mine) more all = (tt, logged_on old new m
 logged_on old new (event.Entry e ∷ mine) more all = (
   record {
     covered = some_more (write_in e.kind) (λ (w : Writing). IsSomeAnd old (λ (a : Known). w.upto ≤ a.durable)) (λ (w : Writing). IsSomeAnd new (λ (a : Known). w.upto ≤ a.durable))
-        (λ w. knows_more (λ (a : Known). w.upto ≤ a.durable) old new (λ a b m le. let d = m.0 in omega (arith, d, le)) more) all.0.covered;
-    kept = some_more (change_in e.kind) (λ (c : Changing). IsSomeAnd old (λ (a : Known). Stands a c)) (λ (c : Changing). IsSomeAnd new (λ (a : Known). Stands a c))
-        (λ c. knows_more (λ (a : Known). Stands a c) old new (λ a b m is. (is.0, m.1 is.0 is.1, is.2, is.3)) more) all.0.kept;
+        (λ w. knows_more (λ (a : Known). w.upto ≤ a.durable) old new (λ a b m le. let d = m.durable in omega (arith, d, le)) more) all.0.covered;
+    kept = some_more (record_in e.kind) (λ (p : Piece). IsSomeAnd old (λ (a : Known). Contains a.pieces p)) (λ (p : Piece). IsSomeAnd new (λ (a : Known). Contains a.pieces p))
+        (λ p. knows_more (λ (a : Known). Contains a.pieces p) old new (λ a b m is. m.pieces p is) more) all.0.kept;
+    ended = some_more (log_end_in e.kind) (λ (n : ℕ). IsSomeAnd old (λ (a : Known). n ≤ a.end)) (λ (n : ℕ). IsSomeAnd new (λ (a : Known). n ≤ a.end))
+        (λ n. knows_more (λ (a : Known). n ≤ a.end) old new (λ a b m le. let d = m.end in omega (arith, d, le)) more) all.0.ended;
   },
   logged_on old new mine more all.1,
 )

@@ -1,6 +1,9 @@
 pub mod Lists
 pub mod Fixes
+pub mod Numbers
 pub mod Events
+pub mod Bounds
+pub mod Closing
 pub mod Keeps
 pub mod Appends
 pub mod Seats

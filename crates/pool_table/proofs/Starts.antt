@@ -1,12 +1,12 @@
 -- The rule can be met: a table with its desk, and with a first pass.
-use Rattle.std.proofs.Common.{◌≡◌, ℕ, zero, suc, [], ◌∷◌, Option, refl, sym, ap, ◌∙◌, subst, arith}
+use Rattle.std.proofs.Common.{◌≡◌, inl, ℕ, zero, suc, [], ◌∷◌, Option, refl, sym, ap, ◌∙◌, subst, arith}
 use mathlib.Core.Option.{some, some-injective, some-ne-none}
 use lib.ListN.{get_elem?}
 use Rattle.atomic_table.specs.Table.{State, opening}
 use Rattle.trail_laws.proofs.Adding.{nothing_yet}
 use Rattle.frame_words.specs.Seen.{visits_of}
-use Rattle.pool_table.specs.declared.view.Held.{Held}
-use Rattle.pool_table.specs.declared.view.Held.TheVariants as slot
+use Rattle.pool_table.specs.declared.view.Slot.{Slot}
+use Rattle.pool_table.specs.declared.view.Slot.TheVariants as slot
 use Rattle.pool_table.specs.declared.view.View.{View}
 use Rattle.pool_table.specs.Seen.{DeskSeen}
 use Rattle.pool_table.specs.Views.{first_view, made_pass, maker_after}
@@ -17,38 +17,41 @@ use Rattle.pool_table.proofs.Seats.{makes_pass}
 
 module _ (D : Type 0) (seen : D → DeskSeen) where
   -- a table whose desk has no entry yet
-  abbrev pub first_state : D → State (Held D) View
+  abbrev pub first_state : D → State (Slot D) View
   first_state d = opening ((seen d).opening.first ∷ 0 ∷ []) (slot.Desk d ∷ []) first_view
 
   pub starts : (d : D) → (seen d).history ≡ [] → IsNew (seen d).frames → Kept seen (seen d) (first_state d)
   starts d empty new = record {
     h = [];
     frames = (seen d).frames;
+    known = (seen d).known;
     next = 0;
     maker = 0;
     accounts = λ c. [];
     seat = λ k. k;
     turns = record {
-      wide = refl;
-      deep = refl;
+      wide = omega arith;
+      deep = omega arith;
       mark_is = refl;
-      free = λ _. (d, refl, record { history = empty; frames_are = refl; opening = refl; pages = refl; log = refl; rest = new.rest });
+      free = λ _. (d, refl, record { history = empty; frames_are = refl; opening = refl; pages = refl; known_is = refl; rest = new.rest });
       held = λ k is. absurd (omega (arith, is));
     };
-    laws = record { so_far = nothing_yet (seen d).opening (seen d).pages; later = λ k le. refl; owned = λ k lt. absurd (omega (arith, lt)) };
+    of_log = refl;
+    laws = record { so_far = nothing_yet (seen d).opening (seen d).pages; ended = tt; later = λ k le. refl; owned = λ k lt. absurd (omega (arith, lt)) };
     framed = record {
       sums = λ f. let held = new.unheld f in let owed : visits_of (seen d).frames.owed f ≡ 0 = ap (λ (o : Option ℕ). visits_of o f) new.rest.owed in omega (arith, held, owed);
       homes = λ f. record { home_is = λ a. off (sym (new.away f) ∙ a); clock_is = λ a _. off (sym (new.away f) ∙ a); value_is = λ a _. off (sym (new.away f) ∙ a) };
     };
+    rested = inl tt;
     words = λ c flush alone k. tt;
     each = λ j v e. one j v e;
     whole = refl;
   }
     where
-      one : (j : ℕ) (v : View) → get_elem? (first_view ∷ []) j ≡ some v → Fits (seen d).log [] (seen d).frames 0 0 0 (λ c. []) (λ k. k) j v
-      one zero v e = subst (Fits (seen d).log [] (seen d).frames 0 0 0 (λ c. []) (λ k. k) 0) (some-injective first_view v e) record {
+      one : (j : ℕ) (v : View) → get_elem? (first_view ∷ []) j ≡ some v → Fits (seen d).known [] (seen d).frames 0 0 0 (λ c. []) (λ k. k) j v
+      one zero v e = subst (Fits (seen d).known [] (seen d).frames 0 0 0 (λ c. []) (λ k. k) 0) (some-injective first_view v e) record {
         knows = record { seen = ([], refl); turn = λ a. off a };
-        keeps = record { makes = λ _. (refl, refl, refl, refl); passes = λ a. off a; unnamed = λ _. refl; others = λ i a e. absurd (some-ne-none a (sym e)); idle = λ _. refl };
+        keeps = record { makes = λ _. (refl, refl, refl, refl); passes = λ a. off a; unnamed = λ _. refl; others = λ i a e. absurd (some-ne-none a (sym e)); idle = λ _. refl; apart = tt };
         fixes = tt;
         bare = record { found = refl; numbers = refl; visits = refl; latches = refl; lifted = refl; claimed = refl; unpublished = refl };
       }

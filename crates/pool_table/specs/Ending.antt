@@ -1,15 +1,16 @@
 -- What is known once one pass has taken in all others.
-use Rattle.std.specs.Prelude.{◌≡◌, ℕ, List, [], ◌∷◌, ◌==◌, IfSome, if◌then◌else◌}
+use Rattle.std.specs.Prelude.{◌≡◌, ℕ, List, [], ◌∷◌, ◌==◌, None, Some, if◌then◌else◌}
 use Rattle.std.specs.List.{AllByRecursion}
 use mathlib.Core.Option.{some}
 use lib.ListN.{get_elem?}
 use Rattle.redo_log.specs.Passes.{Known}
 use Rattle.trail.specs.declared.event.Event.{Event}
+use Rattle.trail_laws.specs.Ending.{AreCallers, AreEnded}
 use Rattle.trail_laws.specs.SoFar.{AreTrueAlone, IsLawfulSoFar}
 use Rattle.pool_table.specs.declared.view.Account.{Account}
 use Rattle.pool_table.specs.declared.view.View.{View}
 use Rattle.pool_table.specs.Seen.{DeskSeen}
-use Rattle.pool_table.specs.Views.{accounts_of}
+use Rattle.pool_table.specs.Views.{accounts_of, numbers_of}
 use Rattle.pool_table.specs.Kept.{IsAtHome, IsLogged}
 
 -- the events of the caller with this number among the accounts
@@ -20,8 +21,10 @@ account_at (a ∷ accounts) c = if a.number == c then a.mine else account_at acc
 -- The desk's history and the accounts of the view are all that the table had: they are lawful, their words are true wherever a caller is alone, and the log has
 -- what they need of it.
 pub record Ends (start d : DeskSeen) (v : View) : Type 0 where
-  pub home : IsAtHome start d d.history d.frames
+  pub home : IsAtHome start d d.history d.frames d.known
   pub lawful : IsLawfulSoFar start.opening start.pages d.history (account_at (accounts_of v))
+  pub callers : AreCallers (account_at (accounts_of v)) (numbers_of (accounts_of v))
+  pub ended : AreEnded (account_at (accounts_of v)) None d.history
   pub words : AreTrueAlone d.history (account_at (accounts_of v))
-  pub log_is : (i : ℕ) (a : Account) → get_elem? (accounts_of v) i ≡ some a → IfSome a.redo (λ (k : Known). k.log ≡ start.log)
-  pub logged : (i : ℕ) (a : Account) → get_elem? (accounts_of v) i ≡ some a → AllByRecursion (IsLogged a.redo) a.mine
+  pub log : d.known.log ≡ start.known.log
+  pub logged : (i : ℕ) (a : Account) → get_elem? (accounts_of v) i ≡ some a → AllByRecursion (IsLogged (Some d.known)) a.mine

@@ -1,26 +1,28 @@
 -- The rule of a table. Word 0 is the mark, word 1 the turn: 0, or 1 more than the number of the pass that has it. Slot 0 has the desk.
-use Rattle.std.specs.Prelude.{◌≡◌, ◌≢◌, ◌⊎◌, ℕ, ◌+◌, ◌<◌, ◌≤◌, true, false, List, [], ◌∷◌, ◌++◌, Option, Some, IfSome, IsSomeAnd, Contains, length, slice_index}
+use Rattle.std.specs.Prelude.{◌≡◌, ◌≢◌, ◌⊎◌, ℕ, ◌+◌, ◌<◌, ◌≤◌, true, false, List, [], ◌∷◌, ◌++◌, Option, None, Some, IfSome, IsSomeAnd, Contains, length, slice_index}
 use Rattle.std.specs.List.{AllByRecursion}
 use mathlib.Core.Option.{some}
 use lib.ListN.{get_elem?}
-use Rattle.atomic_table.specs.Seated.{TableId}
 use Rattle.atomic_table.specs.Table.{State}
 use Rattle.redo_log.specs.declared.view.Piece.{Piece}
 use Rattle.redo_log.specs.Passes.{Known}
 use Rattle.trail.specs.declared.event.Entry.{Entry}
 use Rattle.trail.specs.declared.event.Event.{Event}
 use Rattle.trail.specs.declared.event.Event.TheVariants as event
-use Rattle.trail.specs.Kinds.{Changing, Writing, change_in, write_in}
+use Rattle.trail.specs.Kinds.{Writing, write_in}
 use Rattle.trail.specs.Calls.{open_fixes}
 use Rattle.trail.specs.Trails.{mark}
+use Rattle.trail_laws.specs.Ending.{AreDistinct, AreEndedSoFar, FollowsNewest}
 use Rattle.trail_laws.specs.SoFar.{AreTrueAlone, IsLawfulSoFar}
 use Rattle.frame_words.specs.Plain.{Plain}
+use Rattle.pool_table.specs.declared.view.TheConstants.{PARTS}
 use Rattle.pool_table.specs.declared.view.Account.{Account}
-use Rattle.pool_table.specs.declared.view.Held.{Held}
-use Rattle.pool_table.specs.declared.view.Held.TheVariants as slot
+use Rattle.pool_table.specs.declared.view.Slot.{Slot}
+use Rattle.pool_table.specs.declared.view.Slot.TheVariants as slot
 use Rattle.pool_table.specs.declared.view.View.{View}
 use Rattle.pool_table.specs.Seen.{DeskSeen}
-use Rattle.pool_table.specs.Views.{account_of, fixes_of}
+use Rattle.pool_table.specs.Logged.{KnowsMore, log_end_in, record_in}
+use Rattle.pool_table.specs.Views.{account_of, fixes_of, numbers_of}
 use Rattle.pool_table.specs.Frames.{AreOpen, IsAtRest, IsOfHome, counted, fixes_in, row_of}
 
 -- what these views have together
@@ -34,39 +36,37 @@ parts_of v = v.parts
 abbrev pub fixed_in : ℕ → View → ℕ
 fixed_in f v = fixes_in (fixes_of v) f
 
--- the log has the record of a change at this place
-abbrev pub Stands : Known → Changing → Type 0
-Stands k c = (p : Piece) × Contains k.pieces p × (p.start ≡ c.start) × (c.end ≡ p.start + length p.bytes)
-
--- The log: what its caller's pass of the log knows covers each write, and has each change.
+-- The log: what its caller's pass of the log knows covers each write, has the record of each change, and ends behind each end that an entry names.
 pub record IsLoggedEntry (k : Option Known) (e : Entry) : Type 0 where
   pub covered : IfSome (write_in e.kind) (λ (w : Writing). IsSomeAnd k (λ (known : Known). w.upto ≤ known.durable))
-  pub kept : IfSome (change_in e.kind) (λ (c : Changing). IsSomeAnd k (λ (known : Known). Stands known c))
+  pub kept : IfSome (record_in e.kind) (λ (p : Piece). IsSomeAnd k (λ (known : Known). Contains known.pieces p))
+  pub ended : IfSome (log_end_in e.kind) (λ (end : ℕ). IsSomeAnd k (λ (known : Known). end ≤ known.end))
 
 abbrev pub IsLogged : Option Known → Event → Type 0
 IsLogged k (event.Entry e) = IsLoggedEntry k e
 IsLogged k (event.Receipt r) = Unit {0}
 
--- an account, of the pass that the seat j keeps, is the truth
-pub record IsTrueAccount (log : TableId) (next : ℕ) (accounts : ℕ → List Event) (seat : ℕ → ℕ) (j : ℕ) (a : Account) : Type 0 where
+-- An account, of the pass that the seat j keeps, is the truth. What is known of the log is at least what its pass knew.
+pub record IsTrueAccount (known : Known) (next : ℕ) (accounts : ℕ → List Event) (seat : ℕ → ℕ) (j : ℕ) (a : Account) : Type 0 where
   pub kept_by : seat a.number ≡ j
   pub below : a.number < next
   pub events : accounts a.number ≡ a.mine
-  pub log_is : IfSome a.redo (λ (k : Known). k.log ≡ log)
+  pub redo : KnowsMore a.redo (Some known)
   pub logged : AllByRecursion (IsLogged a.redo) a.mine
 
 -- what a view knows of the mark and the turn
-pub record Knows (h : List Entry) (frames : Plain) (t : ℕ) (v : View) : Type 0 where
+pub record Knows (h : List Entry) (frames : Plain) (known : Known) (t : ℕ) (v : View) : Type 0 where
   pub seen : (more : List Entry) × (h ≡ more ++ v.seen)
-  pub turn : v.turn ≡ true → (v.passes ≡ true) × (t ≡ v.number + 1) × (v.seen ≡ h) × (v.frames ≡ Some frames)
+  pub turn : v.turn ≡ true → (v.passes ≡ true) × (t ≡ v.number + 1) × (v.seen ≡ h) × (v.frames ≡ Some frames) × (v.redo ≡ Some known)
 
 -- which accounts a view has
-pub record Keeps (log : TableId) (next maker : ℕ) (accounts : ℕ → List Event) (seat : ℕ → ℕ) (j : ℕ) (v : View) : Type 0 where
+pub record Keeps (known : Known) (next maker : ℕ) (accounts : ℕ → List Event) (seat : ℕ → ℕ) (j : ℕ) (v : View) : Type 0 where
   pub makes : v.makes ≡ true → (j ≡ maker) × (v.number ≡ next) × (v.passes ≡ false) × (v.others ≡ [])
-  pub passes : v.passes ≡ true → (0 < v.parts) × IsTrueAccount log next accounts seat j (account_of v)
+  pub passes : v.passes ≡ true → (0 < v.parts) × IsTrueAccount known next accounts seat j (account_of v)
   pub unnamed : v.passes ≡ false → v.mine ≡ []
-  pub others : (i : ℕ) (a : Account) → get_elem? v.others i ≡ some a → IsTrueAccount log next accounts seat j a × (open_fixes a.mine ≡ []) × (v.passes ≡ true → a.number ≢ v.number)
+  pub others : (i : ℕ) (a : Account) → get_elem? v.others i ≡ some a → IsTrueAccount known next accounts seat j a × (open_fixes a.mine ≡ []) × (v.passes ≡ true → a.number ≢ v.number)
   pub idle : v.parts ≡ 0 → v.others ≡ []
+  pub apart : AreDistinct (numbers_of v.others)
 
 -- what the steps on frames' words and on images will keep in a view, once there are such steps
 pub record IsBare (v : View) : Type 0 where
@@ -78,9 +78,9 @@ pub record IsBare (v : View) : Type 0 where
   pub claimed : v.claimed ≡ []
   pub unpublished : v.unpublished ≡ []
 
-pub record Fits (log : TableId) (h : List Entry) (frames : Plain) (t next maker : ℕ) (accounts : ℕ → List Event) (seat : ℕ → ℕ) (j : ℕ) (v : View) : Type 0 where
-  pub knows : Knows h frames t v
-  pub keeps : Keeps log next maker accounts seat j v
+pub record Fits (known : Known) (h : List Entry) (frames : Plain) (t next maker : ℕ) (accounts : ℕ → List Event) (seat : ℕ → ℕ) (j : ℕ) (v : View) : Type 0 where
+  pub knows : Knows h frames known t v
+  pub keeps : Keeps known next maker accounts seat j v
   pub fixes : AreOpen h frames (fixes_of v)
   pub bare : IsBare v
 
@@ -88,9 +88,20 @@ pub record Fits (log : TableId) (h : List Entry) (frames : Plain) (t next maker 
 abbrev pub Has : ℕ → View → Type 0
 Has k v = ((v.passes ≡ true) × (v.number ≡ k)) ⊎ ((i : ℕ) × (a : Account) × (get_elem? v.others i ≡ some a) × (a.number ≡ k))
 
--- The history and the accounts are lawful, and each number that was given has its account at its seat; the others have none.
+-- the newest entry is this caller's
+abbrev pub IsNewestOf : ℕ → List Entry → Type 0
+IsNewestOf c [] = ⊥
+IsNewestOf c (e ∷ h) = e.caller ≡ c
+
+-- the newest entry needs nothing behind it, or its caller has the turn
+abbrev pub IsRested : (ℕ → List Event) → List Entry → ℕ → Type 0
+IsRested accounts h t = FollowsNewest accounts None h ⊎ ((k : ℕ) × (t ≡ k + 1) × IsNewestOf k h)
+
+-- The history and the accounts are lawful, each entry but the newest has what it needs behind it, and each number that was given has its account at its seat; the
+-- others have none.
 pub record AreLawful (start : DeskSeen) (h : List Entry) (next : ℕ) (accounts : ℕ → List Event) (seat : ℕ → ℕ) (views : List View) : Type 0 where
   pub so_far : IsLawfulSoFar start.opening start.pages h accounts
+  pub ended : AreEndedSoFar accounts h
   pub later : (k : ℕ) → next ≤ k → accounts k ≡ []
   pub owned : (k : ℕ) → k < next → (v : View) × (get_elem? views (seat k) ≡ some v) × Has k v
 
@@ -99,35 +110,38 @@ pub record AreFrames (start : DeskSeen) (h : List Entry) (frames : Plain) (views
   pub sums : (f : ℕ) → counted frames f ≡ total (fixed_in f) views
   pub homes : (f : ℕ) → IsOfHome start.opening h (row_of frames f) f
 
--- The desk in its slot tells the history and the frames. What ties its disk to the history is its own invariant.
-pub record IsAtHome (start d : DeskSeen) (h : List Entry) (frames : Plain) : Type 0 where
+-- The desk in its slot tells the history, the frames, and what is known of the log. What ties its disk to the history is its own invariant.
+pub record IsAtHome (start d : DeskSeen) (h : List Entry) (frames : Plain) (known : Known) : Type 0 where
   pub history : d.history ≡ h
   pub frames_are : d.frames ≡ frames
   pub opening : d.opening ≡ start.opening
   pub pages : d.pages ≡ start.pages
-  pub log : d.log ≡ start.log
+  pub known_is : d.known ≡ known
   pub rest : IsAtRest frames
 
 module _ {D : Type 0} (seen : D → DeskSeen) (start : DeskSeen) where
   -- One history, whose last place is the mark. Without a turn the desk is in its slot; a turn is had by one view.
-  pub record AreTurns (h : List Entry) (frames : Plain) (seat : ℕ → ℕ) (s : State (Held D) View) : Type 0 where
-    pub wide : length s.words ≡ 2
-    pub deep : length s.homes ≡ 1
+  pub record AreTurns (h : List Entry) (frames : Plain) (known : Known) (seat : ℕ → ℕ) (s : State (Slot D) View) : Type 0 where
+    pub wide : 2 ≤ length s.words
+    pub deep : 1 ≤ length s.homes
     pub mark_is : slice_index s.words 0 ≡ mark start.opening.first h
-    pub free : slice_index s.words 1 ≡ 0 → (d : D) × (get_elem? s.homes 0 ≡ some (some (slot.Desk d))) × IsAtHome start (seen d) h frames
+    pub free : slice_index s.words 1 ≡ 0 → (d : D) × (get_elem? s.homes 0 ≡ some (some (slot.Desk d))) × IsAtHome start (seen d) h frames known
     pub held : (k : ℕ) → slice_index s.words 1 ≡ k + 1 → (v : View) × (get_elem? s.views (seat k) ≡ some v) × (v.turn ≡ true)
 
-  pub record Kept (s : State (Held D) View) : Type 0 where
+  pub record Kept (s : State (Slot D) View) : Type 0 where
     pub h : List Entry
     pub frames : Plain
+    pub known : Known
     pub next : ℕ
     pub maker : ℕ
     pub accounts : ℕ → List Event
     pub seat : ℕ → ℕ
-    pub turns : AreTurns h frames seat s
+    pub turns : AreTurns h frames known seat s
+    pub of_log : known.log ≡ start.known.log
     pub laws : AreLawful start h next accounts seat s.views
+    pub rested : IsRested accounts h (slice_index s.words 1)
     pub framed : AreFrames start h frames s.views
     -- Words that were found are true wherever a caller is alone.
     pub words : AreTrueAlone h accounts
-    pub each : (j : ℕ) (v : View) → get_elem? s.views j ≡ some v → Fits start.log h frames (slice_index s.words 1) next maker accounts seat j v
-    pub whole : total parts_of s.views ≡ 64
+    pub each : (j : ℕ) (v : View) → get_elem? s.views j ≡ some v → Fits known h frames (slice_index s.words 1) next maker accounts seat j v
+    pub whole : total parts_of s.views ≡ PARTS

@@ -1,8 +1,6 @@
 -- What a step asks of its caller.
 use Rattle.std.specs.Prelude.{◌≡◌, ℕ, ◌+◌, ◌<◌, ◌≤◌, true, List, Option, None, Some, IfSome, IsSomeAnd, Contains, ⊤}
 use Rattle.page_ids.specs.declared.ids.PageId.{PageId}
-use Rattle.redo_log.specs.declared.view.Piece.{Piece}
-use Rattle.redo_log.specs.Passes.{Known}
 use Rattle.trail.specs.declared.event.Entry.{Entry}
 use Rattle.trail.specs.declared.event.Event.{Event}
 use Rattle.trail.specs.declared.event.Held.{Held}
@@ -53,8 +51,3 @@ pub record AreAll (h : List Entry) (frames : Plain) (all : List Held) : Type 0 w
 pub record IsFoundOn (h : List Entry) (frames : Plain) (e : Event) : Type 0 where
   pub found : (all : List Held) → AreAll h frames all → IsTrueOf h all e
   pub clean : is_of_clean e ≡ true → (held : List Held) → IsTrueOf h held e
-
--- a pass of the log knows as much as before, or more, of the same log
-abbrev pub KnowsMore : Option Known → Option Known → Type 0
-KnowsMore None new = ⊤
-KnowsMore (Some a) new = IsSomeAnd new (λ (b : Known). (a.durable ≤ b.durable) × ((p : Piece) → Contains a.pieces p → Contains b.pieces p))

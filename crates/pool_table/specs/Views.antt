@@ -1,5 +1,5 @@
 -- The views, and what each step makes of one.
-use Rattle.std.specs.Prelude.{Bool, true, false, List, [], ◌∷◌, ◌++◌, ◌+◌, ◌-◌, Option, None, Some, length, nat_le, if◌then◌else◌}
+use Rattle.std.specs.Prelude.{ℕ, map, Bool, true, false, List, [], ◌∷◌, ◌++◌, ◌+◌, ◌-◌, Option, None, Some, length, nat_le, if◌then◌else◌}
 use Rattle.frame_words.specs.Plain.{Plain}
 use Rattle.redo_log.specs.Passes.{Known}
 use Rattle.trail.specs.declared.event.Entry.{Entry}
@@ -7,6 +7,7 @@ use Rattle.trail.specs.declared.event.Receipt.{Receipt}
 use Rattle.trail.specs.declared.event.Event.TheVariants as event
 use Rattle.trail.specs.declared.event.Held.{Held}
 use Rattle.trail.specs.Calls.{open_fixes}
+use Rattle.pool_table.specs.declared.view.TheConstants.{PARTS}
 use Rattle.pool_table.specs.declared.view.Account.{Account}
 use Rattle.pool_table.specs.declared.view.View.{View}
 use Rattle.pool_table.specs.Seen.{DeskSeen}
@@ -35,7 +36,7 @@ nobody = record {
 
 -- the first view makes all passes
 abbrev pub first_view : View
-first_view = record nobody { parts = 64; makes = true }
+first_view = record nobody { parts = PARTS; makes = true }
 
 -- a pass that it gives, and itself then: the pass has no open fix and no turn
 abbrev pub made_pass : View → View
@@ -46,6 +47,9 @@ maker_after v = record v { parts = v.parts - 1; number = v.number + 1 }
 
 abbrev pub account_of : View → Account
 account_of v = record { number = v.number; mine = v.mine; redo = v.redo }
+
+abbrev pub numbers_of : List Account → List ℕ
+numbers_of accounts = map (λ (a : Account). a.number) accounts
 
 -- the accounts that a view brings
 abbrev pub accounts_if : Bool → View → List Account
@@ -68,17 +72,17 @@ looked v h = record v { seen = h }
 
 -- it has the turn, and knows what the desk tells; and it gave the turn back
 abbrev pub with_turn : View → DeskSeen → View
-with_turn v d = record v { turn = true; seen = d.history; frames = Some d.frames }
+with_turn v d = record v { turn = true; seen = d.history; frames = Some d.frames; redo = Some d.known }
 
 abbrev pub without_turn : View → View
 without_turn v = record v { turn = false; frames = None }
 
 -- it made this entry, or this receipt: the frames are these then, and its pass of the log knows this
-abbrev pub appended : View → Entry → Plain → Option Known → View
-appended v e g k = record v { seen = e ∷ v.seen; mine = event.Entry e ∷ v.mine; frames = Some g; redo = k }
+abbrev pub appended : View → Entry → Plain → Known → View
+appended v e g k = record v { seen = e ∷ v.seen; mine = event.Entry e ∷ v.mine; frames = Some g; redo = Some k }
 
-abbrev pub noted : View → Receipt → Plain → Option Known → View
-noted v r g k = record v { mine = event.Receipt r ∷ v.mine; frames = Some g; redo = k }
+abbrev pub noted : View → Receipt → Plain → Known → View
+noted v r g k = record v { mine = event.Receipt r ∷ v.mine; frames = Some g; redo = Some k }
 
 -- its open fixes
 abbrev pub fixes_of : View → List Held

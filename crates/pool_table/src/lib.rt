@@ -10,5 +10,5 @@ mod plays;
 mod view;
 
 pub use ledger::{Accounts, Mark, Share, TURN_FREE};
-pub use plays::{Append, Appended, Give, Look, Note, Noted, Passes, Shown, Take};
-pub use view::{Account, Held, Key, Law, Lodger, View};
+pub use plays::{Append, Appended, Give, Look, Note, Noted, Passes, Shown, Started, Take};
+pub use view::{Account, Key, Law, Lodger, PARTS, Slot, View};

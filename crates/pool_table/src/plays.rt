@@ -1,13 +1,14 @@
 //! What each step tells its seat. The entry, receipt and frames of a step enter by a type parameter, and each call picks them.
-ghost use Rattle.std.specs.Prelude.{ℕ, Option, None};
+ghost use Rattle.std.specs.Prelude.{ℕ};
 ghost use Rattle.trail.specs.declared.event.Entry.{Entry};
 ghost use Rattle.trail.specs.declared.event.Receipt.{Receipt};
 ghost use Rattle.frame_words.specs.Plain.{Plain};
 ghost use Rattle.redo_log.specs.Passes.{Known};
-ghost use Rattle.pool_table.specs.Told.{no_entry, no_frames, no_receipt, tells_append, tells_give, tells_look, tells_note, tells_take};
+ghost use Rattle.pool_table.specs.Seen.{DeskSeen};
+ghost use Rattle.pool_table.specs.Told.{no_desk, no_entry, no_frames, no_known, no_receipt, tells_append, tells_give, tells_look, tells_note, tells_take};
 ghost use Rattle.pool_table.specs.Views.{joined, made_pass, maker_after, nobody};
 
-use crate::view::{Held, Lodger, View};
+use crate::view::{Lodger, Slot, View};
 use atomic_table::{Join, Play, Split};
 use std::marker::{Brand, PhantomData};
 
@@ -33,7 +34,7 @@ impl Noted for Brand {
 pub trait Shown {
     ghost frames: { Plain };
 
-    ghost known: { Option Known };
+    ghost known: { Known };
 
     ghost first: { ℕ };
 }
@@ -41,7 +42,7 @@ pub trait Shown {
 impl Shown for Brand {
     ghost frames = { no_frames };
 
-    ghost known = { None };
+    ghost known = { no_known };
 
     ghost first = { 0 };
 }
@@ -51,7 +52,7 @@ pub struct Append<E> {
     of: PhantomData<E>,
 }
 
-impl<D: Lodger, E: Appended + Shown> Play<Held<D>, View> for Append<E> {
+impl<D: Lodger, E: Appended + Shown> Play<Slot<D>, View> for Append<E> {
     ghost then = { tells_append E.entry E.frames E.known };
 }
 
@@ -60,7 +61,7 @@ pub struct Note<E> {
     of: PhantomData<E>,
 }
 
-impl<D: Lodger, E: Noted + Shown> Play<Held<D>, View> for Note<E> {
+impl<D: Lodger, E: Noted + Shown> Play<Slot<D>, View> for Note<E> {
     ghost then = { tells_note E.receipt E.frames E.known };
 }
 
@@ -69,21 +70,32 @@ pub struct Look<E> {
     of: PhantomData<E>,
 }
 
-impl<D: Lodger, E: Shown> Play<Held<D>, View> for Look<E> {
+impl<D: Lodger, E: Shown> Play<Slot<D>, View> for Look<E> {
     ghost then = { tells_look E.first };
 }
 
-/// A compare and exchange of the turn, which takes the desk.
-pub struct Take;
+/// What a table's desk was when the table was made.
+pub trait Started {
+    ghost start: { DeskSeen };
+}
 
-impl<D: Lodger> Play<Held<D>, View> for Take {
-    ghost then = { tells_take D.seen };
+impl Started for Brand {
+    ghost start = { no_desk };
+}
+
+/// A compare and exchange of the turn, which takes the desk.
+pub struct Take<E> {
+    of: PhantomData<E>,
+}
+
+impl<D: Lodger, E: Started> Play<Slot<D>, View> for Take<E> {
+    ghost then = { tells_take D.seen E.start };
 }
 
 /// A store of the turn, which gives the desk back.
 pub struct Give;
 
-impl<D: Lodger> Play<Held<D>, View> for Give {
+impl<D: Lodger> Play<Slot<D>, View> for Give {
     ghost then = { tells_give };
 }
 

@@ -8,6 +8,9 @@ use std::marker::PhantomData;
 use std::snapshot::Snapshot;
 use trail::{Entry, Event};
 
+/// The parts of the right to make passes: a pass has one.
+pub const PARTS: u32 = 64;
+
 /// What a pass did. No value of it is made.
 pub struct Account {
     pub number: u32,
@@ -19,7 +22,7 @@ pub struct Account {
 
 /// What a seat knows. No value of it is made.
 pub struct View {
-    /// Its parts of the right to make passes: 64 in all, one a pass.
+    /// Its parts of the right to make passes.
     pub parts: u32,
     /// Whether it makes passes. Its number is then the next one.
     pub makes: bool,
@@ -59,7 +62,7 @@ pub trait Lodger: Send + Drop {
 }
 
 /// What a slot holds.
-pub enum Held<D> {
+pub enum Slot<D> {
     Nothing,
     Desk(D),
     Image(Image),
@@ -75,7 +78,7 @@ pub struct Law<D> {
     of: PhantomData<D>,
 }
 
-impl<D: Lodger> TableRule<Held<D>, View, Key<D>> for Law<D> {
+impl<D: Lodger> TableRule<Slot<D>, View, Key<D>> for Law<D> {
     ghost use Rattle.pool_table.specs.Kept.{Kept};
     ghost use Rattle.pool_table.specs.Views.{first_view};
 
