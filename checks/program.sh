@@ -1065,6 +1065,15 @@ streams() {
     expect 'a reader that leaves' 5 $'trail 0 1 65536\n' $'innopool: write fault\n'
 }
 
+# A run with less memory than its pool has: nothing is written.
+want_of_memory() {
+    blank_files
+    begin
+    (cd case && ulimit -v 100000 && exec "$program" run 0 space log </dev/null >../out 2>../err)
+    status=$?
+    expect 'a pool that is larger than the memory' 7 '' $'innopool: out of memory\n'
+}
+
 examples
 creates
 victims
@@ -1083,6 +1092,7 @@ opened_files
 faults
 streams
 system_calls
+want_of_memory
 
 echo "$passed passed, $failed failed"
 [ "$failed" = 0 ]
