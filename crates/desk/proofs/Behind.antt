@@ -3,7 +3,7 @@ use Rattle.std.proofs.Common.{◌≡◌, ℕ, Bool, true, false, cond, List, [],
 use Rattle.std.specs.Option.{is_some, unwrap_or}
 use Rattle.page_ids.specs.Content.{Content}
 use Rattle.page_ids.specs.Layout.{IsPage}
-use Rattle.page_ids.specs.Refusal.{IsBad}
+use Rattle.page_ids.specs.Refusal.{IsBadPage}
 use Rattle.page_ids.specs.Same.{same_page}
 use Rattle.page_ids.specs.Size.{page_bytes}
 use Rattle.page_ids.specs.declared.config.Config.{Config}
@@ -18,7 +18,7 @@ use Rattle.trail.specs.Dirt.{dirty, dirt_of, is_dirty}
 use Rattle.trail.specs.Saved.{is_written, saved}
 use Rattle.frame_words.specs.Seen.{FramesSeen, row_at}
 use Rattle.desk.specs.Base.{Opened, IsGiven}
-use Rattle.desk.specs.Behind.{IsBehind, IsOpening, IsValueIn}
+use Rattle.desk.specs.Behind.{IsBehind, IsNewlyOpened, IsValueIn}
 use Rattle.instance_lists.specs.Ledger.{IsVacant}
 use Rattle.desk.specs.State.{State}
 use Rattle.desk.specs.Steps.{IsAppended, next_entry}
@@ -85,7 +85,7 @@ module _ {D : Type 0} (seen : D → DiskSeen) (o : Opened) where
 
   -- and where the bytes that were read are no page, it has none
   pub read_none : (desk : State D) (s : FramesSeen) (p : PageId) (bytes : List ℕ) (bad : BadPage) → Stands desk s → p.page < pages_in (seen desk.disk).spaces p.space → is_dirty desk.history p ≡ false
-      → IfSome ((seen desk.disk).told p) (λ here. bytes ≡ here) → IsBad p bytes bad → value o.size o.base desk.history p ≡ None
+      → IfSome ((seen desk.disk).told p) (λ here. bytes ≡ here) → IsBadPage p bytes bad → value o.size o.base desk.history p ≡ None
   read_none desk s p bytes bad b inside clean known is = given_none _ p _ bytes bad (clean_given desk s p b inside clean) known is
 
   -- the disk is as before
@@ -166,7 +166,7 @@ module _ {D : Type 0} (seen : D → DiskSeen) (o : Opened) where
 
   -- nothing happened yet
   pub behind_open : (c : Config) (n : ℕ) (d : D) (s : FramesSeen) → ((p : PageId) → (seen d).tells ≡ false → (seen d).told p ≡ None) → (seen d).size ≡ page_bytes c.page
-      → IsOpening o (seen d) → Stands (made c n [] d) s
+      → IsNewlyOpened o (seen d) → Stands (made c n [] d) s
   behind_open c n d s silent size_is opened = record {
     size = sym size_is ∙ opened.size_is;
     pages = opened.pages_are;

@@ -4,7 +4,7 @@ use Rattle.std.proofs.lemmas.Grind.{same_number_lists}
 use Rattle.std.specs.Option.{is_some}
 use Rattle.page_ids.specs.Content.{Content}
 use Rattle.page_ids.specs.Layout.{IsPage, IsContent}
-use Rattle.page_ids.specs.Refusal.{IsBad}
+use Rattle.page_ids.specs.Refusal.{IsBadPage}
 use Rattle.page_ids.specs.Same.{same_page}
 use Rattle.page_ids.specs.declared.ids.PageId.{PageId}
 use Rattle.page_ids.specs.declared.layout.BadPage.{BadPage}
@@ -64,7 +64,7 @@ given_content told p first c given read =
     let P : Option (List ℕ) → Type 0 = λ t. IfSome t (λ bytes. IsPage p bytes c) in
     content_test first p given.bytes c (subst P given.tells read) given.content
 
-bad_unsound : (p : PageId) (bytes : List ℕ) (bad : BadPage) (c : Content) → IsBad p bytes bad → IsPage p bytes c → ⊥
+bad_unsound : (p : PageId) (bytes : List ℕ) (bad : BadPage) (c : Content) → IsBadPage p bytes bad → IsPage p bytes c → ⊥
 bad_unsound p bytes (Rattle.page_ids.specs.declared.layout.BadPage.TheVariants.Number found) c is page = elim page.sound [
   | inl blank ↦ is.0 blank
   | inr written ↦ is.2 (is.1 ∙ written.number)
@@ -83,11 +83,11 @@ none_test None p bytes no_page m = refl
 none_test (Some d) p bytes no_page m = absurd (no_page d m)
 
 -- a told page whose bytes are no page has no value
-pub given_none : (told : Option (List ℕ)) (p : PageId) (first : Option Content) (bytes : List ℕ) (bad : BadPage) → IsGiven told p first → IfSome told (λ here. bytes ≡ here) → IsBad p bytes bad → first ≡ None
+pub given_none : (told : Option (List ℕ)) (p : PageId) (first : Option Content) (bytes : List ℕ) (bad : BadPage) → IsGiven told p first → IfSome told (λ here. bytes ≡ here) → IsBadPage p bytes bad → first ≡ None
 given_none told p first bytes bad given known is =
     let P : Option (List ℕ) → Type 0 = λ t. IfSome t (λ here. bytes ≡ here) in
     let same : bytes ≡ given.bytes = subst P given.tells known in
-    let B : List ℕ → Type 0 = λ b. IsBad p b bad in
+    let B : List ℕ → Type 0 = λ b. IsBadPage p b bad in
     none_test first p given.bytes (λ c page. bad_unsound p given.bytes bad c (subst B same is) page) given.content
 
 -- what is known of a clean page: told at the opening, its first value, told now, whether written since, its value, and that at its latest write

@@ -27,13 +27,13 @@ use Rattle.trail.specs.Words.{words_told}
 use Rattle.frame_words.specs.Appends.{AreReady, FitsHomes, FitsOpen, appended, extended, pages_named, turn_after}
 use Rattle.frame_words.specs.Conditions.{AreFound, AreOurs, ArePublished, IsNext, IsVisited, IsUncovered, MayAppend, MayLay}
 use Rattle.frame_words.specs.Rows.{Row, Uncovers, laid_row, latched_row, lifted_row, stamped_row, unlatched_row}
-use Rattle.frame_words.specs.Seen.{FramesSeen, History, Turn, row_at, with_row, OnValue}
+use Rattle.frame_words.specs.Seen.{FramesSeen, History, Turn, row_at, with_row, OnToldValue}
 use Rattle.desk.specs.Base.{Opened}
 use Rattle.desk.specs.Behind.{IsBehind}
 use Rattle.desk.specs.Changes.{IsPutBy, IsImageTold, changed_row}
 use Rattle.desk.specs.State.{State}
 use Rattle.desk.specs.Steps.{IsAppended, next_entry}
-use Rattle.desk.specs.Tied.{AreTied, AreAlone, HasTurn, IsTied, OnTold}
+use Rattle.desk.specs.Tied.{AreTied, TellsAll, HasTurn, IsTied, OnTold}
 use Rattle.desk.specs.declared.calls.Caller.{Caller}
 use Rattle.desk.specs.declared.calls.PutDone.{PutDone}
 use Rattle.desk.proofs.BehindWrites.{settled, row_here, row_there, desk_of, settled_value, behind_rows, behind_disk, behind_answer, behind_put, behind_write, behind_failed, refused_answer, clean_answer}
@@ -173,9 +173,9 @@ turn_kept f (Some t) by same is =
     let P : Turn → Type 0 = λ t. (t.caller ≡ by.pass) × (t.number ≡ by.number) in
     subst P (sym (same t)) is
 
-pub alone_rows : (s t : FramesSeen) → t.rows ≡ s.rows → AreAlone s → AreAlone t
+pub alone_rows : (s t : FramesSeen) → t.rows ≡ s.rows → TellsAll s → TellsAll t
 alone_rows s t same alone =
-    let P : List Row → Type 0 = λ rows. AreAlone (record t { rows = rows }) in
+    let P : List Row → Type 0 = λ rows. TellsAll (record t { rows = rows }) in
     subst P (sym same) alone
 
 pub any_open : (o : Option (List Held)) → IfSome o (λ x. ⊤)
@@ -217,7 +217,7 @@ module _ {D : Type 0} (seen : D → DiskSeen) where
   abbrev Ties : FramesSeen → State D → Type 0
   Ties s desk = AreTied seen s desk
 
-  pub home_row : (s : FramesSeen) (desk : State D) (p : PageId) (f : ℕ) → Ties s desk → AreAlone s → home desk.history p ≡ Some f → f < desk.config.frames
+  pub home_row : (s : FramesSeen) (desk : State D) (p : PageId) (f : ℕ) → Ties s desk → TellsAll s → home desk.history p ≡ Some f → f < desk.config.frames
       → ((q : PageId) → home desk.history q ≡ Some f → q ≡ p) → IsSettled (page_bytes desk.config.page) desk.history (row_at s f) p f
   home_row s desk p f t alone here below only =
       let inside : f < length s.rows = omega (arith, below, t.whole) in
@@ -272,7 +272,7 @@ module _ {D : Type 0} (seen : D → DiskSeen) where
           sized = if_map (extended e) s.history (λ h. length new.bytes ≡ page_bytes h.config.page)
               (if_is s.history (history_of desk) (λ h. length new.bytes ≡ page_bytes h.config.page) t.history sized);
           valued = λ resident.
-              let P : PageId → Type 0 = λ q. OnValue (appended Hand e) q (λ v. v ≡ Some new) in
+              let P : PageId → Type 0 = λ q. OnToldValue (appended Hand e) q (λ v. v ≡ Some new) in
               let V : History → Type 0 = λ h. IfSome s.base (λ base. value (page_bytes h.config.page) base h.entries p ≡ Some new) in
               subst P (sym hand_page) (if_map (extended e) s.history V (if_is s.history (history_of desk) (λ h. V (extended e h)) t.history
               (patched_told s.base (value_told s desk p f clock n c t here row))));
@@ -294,7 +294,7 @@ module _ {D : Type 0} (seen : D → DiskSeen) where
           sized = if_map (extended e) s.history (λ h. length c.bytes ≡ page_bytes h.config.page)
               (if_is s.history (history_of desk) (λ h. length c.bytes ≡ page_bytes h.config.page) t.history sized);
           valued = λ resident.
-              let P : PageId → Type 0 = λ q. OnValue (appended Hand e) q (λ v. v ≡ Some c) in
+              let P : PageId → Type 0 = λ q. OnToldValue (appended Hand e) q (λ v. v ≡ Some c) in
               let V : History → Type 0 = λ h. IfSome s.base (λ base. value (page_bytes h.config.page) base h.entries p ≡ Some c) in
               subst P (sym hand_page) (if_map (extended e) s.history V (if_is s.history (history_of desk) (λ h. V (extended e h)) t.history
               (value_told s desk p f clock n c t here row)));
@@ -597,7 +597,7 @@ module _ {D : Type 0} (seen : D → DiskSeen) where
     pub behind : (o : Opened) → IsBehind seen o old s → IsBehind seen o new s'
 
   -- a page in its home, whose image was lifted under the latch
-  module _ (s s1 : FramesSeen) (desk : State D) (by : Caller) (p : PageId) (f : ℕ) (image : Content) (t : Ties s desk) (alone : AreAlone s)
+  module _ (s s1 : FramesSeen) (desk : State D) (by : Caller) (p : PageId) (f : ℕ) (image : Content) (t : Ties s desk) (alone : TellsAll s)
       (here : home desk.history p ≡ Some f) (below : f < desk.config.frames) (only : (q : PageId) → home desk.history q ≡ Some f → q ≡ p)
       (lifted : IsUncovered s f (Some (Some image))) (first : s1 ≡ with_row s f (in_hand (row_at s f))) where
     it : IsSettled (page_bytes desk.config.page) desk.history (row_at s f) p f

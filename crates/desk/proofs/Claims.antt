@@ -33,7 +33,7 @@ use Rattle.desk.specs.Claimed.{HasLooked, AreTiedBut}
 use Rattle.desk.specs.State.{State}
 use Rattle.desk.specs.Steps.{IsAppended, next_entry}
 use Rattle.desk.specs.Tied.{AreTied, IsTied, OnTold, HasTurn}
-use Rattle.desk.specs.Victims.{IsSettled}
+use Rattle.desk.specs.Victims.{IsRowSettled}
 use Rattle.desk.specs.declared.calls.Caller.{Caller}
 use Rattle.trail.proofs.DirtyPages.{newest_value}
 use Rattle.instance_lists.proofs.Dirt.{no_way, same_is, same_self, cleaned_of}
@@ -687,7 +687,7 @@ laid_back s f c inside is =
     ap make (set-set s.rows f up (laid_row (get_or (set s.rows f up) f new_row) c) ∙ ap (set s.rows f) again ∙ set-get_or s.rows f new_row)
 
 -- a claimed row that is published at its clock is as before
-pub row_back : (r : Row) (image : Option (Option Content)) (p : PageId) (clock : ℕ) → r.resident ≡ true → r.latched ≡ false → r.page ≡ p → r.clock ≡ clock → IsSettled r → IsSome r.image → Uncovers r.image image
+pub row_back : (r : Row) (image : Option (Option Content)) (p : PageId) (clock : ℕ) → r.resident ≡ true → r.latched ≡ false → r.page ≡ p → r.clock ≡ clock → IsRowSettled r → IsSome r.image → Uncovers r.image image
     → published_row (claimed_row r image) p clock ≡ r
 row_back r image p clock resident latched page clock_is settled there un =
     let make = λ (a : Bool) (b : ℕ) (q : PageId) (i : Option (Option Content)). let x : Row = record { resident = a; clock = b; page = q; latched = r.latched; image = i; held = r.held } in x in

@@ -6,7 +6,7 @@ use Rattle.redo_mark.specs.Records.{head_of}
 use Rattle.trail.specs.declared.event.Call.TheVariants as call
 use Rattle.trail.specs.History.{home}
 use Rattle.frame_words.specs.Rows.{Row}
-use Rattle.desk.specs.Creating.{IsCreateRefusal, IsUnused, create_err_of}
+use Rattle.desk.specs.Creating.{IsCreateRefusal, LeavesLog, create_err_of}
 use Rattle.desk.specs.Logged.{create_change}
 use Rattle.desk.specs.State.{State}
 use Rattle.desk.specs.Victims.{IsUnhad, IsUnforced}
@@ -31,7 +31,7 @@ unhad_create seen old new rows now by held p moment durable first last was is (u
     (within, few, record { absent = absent; rose = un.0; entry = un.1 }, same, un.2)
 
 -- the log is as it was where no device failed
-pub unforced_unused : {L : Type 0} (x y : L) (e : FrameErr) → IsUnforced x y e → IsUnused x y (create_err_of e)
+pub unforced_unused : {L : Type 0} (x y : L) (e : FrameErr) → IsUnforced x y e → LeavesLog x y (create_err_of e)
 unforced_unused x y unhad.OutOfMemory same = same
 unforced_unused x y (unhad.AllFixed words) same = same
 unforced_unused x y (unhad.RedoFault before after) same = tt

@@ -33,9 +33,9 @@ use Rattle.desk.specs.Claimed.{HasLooked, IsTaken, StopsAt, AreTiedBut, KeepsLog
 use Rattle.desk.specs.Ledger.{entry_behind}
 use Rattle.desk.specs.Logged.{IsLogged, IsLoggedKind, AreUpTo, IsUpTo}
 use Rattle.desk.specs.State.{State}
-use Rattle.desk.specs.Steps.{IsAppended, IsRefused, row_in}
+use Rattle.desk.specs.Steps.{IsAppended, RefusesCall, row_in}
 use Rattle.desk.specs.Tied.{AreTied, IsTied, HasTurn, IsOwn}
-use Rattle.desk.specs.Victims.{IsHad, IsUnhad, MustWrite, IsAhead, MustCover, IsSettled, AreSettled, IsCleanedFirst, LeavesTurn}
+use Rattle.desk.specs.Victims.{IsHad, IsUnhad, MustWrite, IsAhead, MustCover, IsRowSettled, AreSettled, IsCleanedFirst, LeavesTurn}
 use Rattle.instance_lists.specs.Walk.{AreOrderly}
 use Rattle.desk.specs.declared.calls.Caller.{Caller}
 use Rattle.desk.specs.declared.flush.WriteErr.{WriteErr}
@@ -118,7 +118,7 @@ settled_claimed rows now f image inside is settled = subst AreSettled (sym is) (
     (λ other.
     let there = row_there rows f g (claimed_row (row_in rows f) image) other in
     let long = length-set rows f (claimed_row (row_in rows f) image) in
-    subst IsSettled (sym there) (settled g (omega (arith, l, long)) (sym (ap (λ (r : Row). r.resident) there) ∙ resident))))
+    subst IsRowSettled (sym there) (settled g (omega (arith, l, long)) (sym (ap (λ (r : Row). r.resident) there) ∙ resident))))
 
 grows_same : (x : Option (List ℕ)) → Grows x x
 grows_same None = refl
@@ -187,7 +187,7 @@ module _ {D : Type 0} (seen : D → DiskSeen) where
 
 -- why a fix was refused
 pub unhad_fault : {D : Type 0} (old new : State D) (rows : List Row) (by : Caller) (p : PageId) (asked : Call) (disk_was disk_is durable log_was log_is : ℕ) (e : WriteErr) → IsWriteFault disk_was disk_is log_was log_is e
-    → IsRefused old new by asked (cause_of e) → (must : MustWrite old rows) → IsForced old.disk new.disk (IsAhead old.history must.victim durable) e → IsUnhad old new rows by p asked disk_was disk_is durable log_was log_is (refusal_of e)
+    → RefusesCall old new by asked (cause_of e) → (must : MustWrite old rows) → IsForced old.disk new.disk (IsAhead old.history must.victim durable) e → IsUnhad old new rows by p asked disk_was disk_is durable log_was log_is (refusal_of e)
 unhad_fault old new rows by p asked disk_was disk_is durable log_was log_is (unwritten.RedoFault before after) fault refused must forced = (fault, refused, record { write = must; ahead = forced.0 }, forced.1)
 unhad_fault old new rows by p asked disk_was disk_is durable log_was log_is (unwritten.DiskFault before after) fault refused must forced = (fault, refused, must)
 

@@ -10,7 +10,7 @@ use Rattle.trail.specs.History.{home}
 use Rattle.trail.specs.declared.event.Hand.{Hand}
 use Rattle.trail.specs.Book.{Book, book, first_in, frame_in_turn, frames_there}
 use Rattle.trail.specs.Victim.{walk, before_of, ArePassed, IsSought, AreAllFixed}
-use Rattle.trail.specs.Words.{frames_of}
+use Rattle.trail.specs.Words.{frames_told}
 use Rattle.frame_words.specs.Rows.{Row}
 use Rattle.desk.specs.Claimed.{ArePassedBy, StopsAt}
 use Rattle.desk.specs.State.{State}
@@ -62,11 +62,11 @@ pub all_fixed_are : (c : Config) (h : List Entry) (rows : List Row) (found : Opt
 all_fixed_are c h rows found p words orderly none_free full absent are = record {
   absent = absent;
   none_free = no_front (book c h) none_free;
-  frames = just_itself (frames_there c.frames (book c h)) (frames_of words) (orderly.there ∙ sym (frames_are 0 c.frames words are.rising
+  frames = just_itself (frames_there c.frames (book c h)) (frames_told words) (orderly.there ∙ sym (frames_are 0 c.frames words are.rising
       (λ f least most.
       let q = full f (omega (arith, most)) in
       let there = are.passed_are.each q.0 (housed_walked c h q.0 f orderly q.1) in
-      subst (λ (g : ℕ). Contains (frames_of words) g) (same_frame there.0 f (sym there.1 ∙ q.1)) there.2)
+      subst (λ (g : ℕ). Contains (frames_told words) g) (same_frame there.0 f (sym there.1 ∙ q.1)) there.2)
       (λ f here.
       let q = are.passed_are.only f here in
       let below = orderly.below q.0 f q.2 in

@@ -24,7 +24,7 @@ use Rattle.desk.specs.Loads.{MayFix, IsOneMore}
 use Rattle.desk.specs.Logged.{IsLogged, IsLoggedKind, IsUpTo}
 use Rattle.desk.specs.State.{State}
 use Rattle.desk.specs.Steps.{IsAppended, IsLoadRefusal, row_in, loaded_row}
-use Rattle.desk.specs.Victims.{IsSettled, AreSettled, IsCleanedFirst, IsHad, IsUnhad, IsUnforced, LeavesTurn}
+use Rattle.desk.specs.Victims.{IsRowSettled, AreSettled, IsCleanedFirst, IsHad, IsUnhad, IsUnforced, LeavesTurn}
 use Rattle.desk.specs.declared.calls.Caller.{Caller}
 use Rattle.desk.specs.declared.calls.FixErr.{FixErr}
 use Rattle.desk.specs.declared.calls.FixErr.TheVariants as refusal
@@ -58,8 +58,8 @@ leaves_told seen old new config instance same = record {
   later = same.later;
 }
 
-pub settled_set : (rows : List Row) (f : ℕ) (r : Row) → (f < length rows → r.resident ≡ true → IsSettled r) → AreSettled rows → AreSettled (set rows f r)
-settled_set rows f r here settled = λ g l. each_row (λ k x. k < length rows → x.resident ≡ true → IsSettled x) rows f r here (λ k other below inside. settled k below) g l
+pub settled_set : (rows : List Row) (f : ℕ) (r : Row) → (f < length rows → r.resident ≡ true → IsRowSettled r) → AreSettled rows → AreSettled (set rows f r)
+settled_set rows f r here settled = λ g l. each_row (λ k x. k < length rows → x.resident ≡ true → IsRowSettled x) rows f r here (λ k other below inside. settled k below) g l
     (subst (λ (n : ℕ). g < n) (length-set rows f r) l)
 
 -- an image that was read in, and published, is told where the fixes are

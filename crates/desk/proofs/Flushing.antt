@@ -23,8 +23,8 @@ use Rattle.desk.specs.Claimed.{cause_of}
 use Rattle.desk.specs.Cleans.{IsFirstCovered, IsUnwrittenMark, IsCleanMark, MayWriteBack, LeavesRoom, IsFirstDirty, IsFirstAhead, NeedsNoLog, NeedsLog, IsStop, IsNeeded, StaysPut, WroteFirst, UnwroteFirst, Flushed, Unflushed, LeavesClean, IsUncleaned, IsCleanRefusal, HasCleaned, clean_err_of}
 use Rattle.desk.specs.Ledger.{entry_behind}
 use Rattle.desk.specs.Reads.{RoseWithin}
-use Rattle.desk.specs.Moments.{LogSeen, Moment, moment, HasPlaces, IsAtRest, Keeps}
-use Rattle.desk.specs.State.{State, Kept}
+use Rattle.desk.specs.Moments.{LogSeen, Moment, moment, HasRoomFor, IsAtRest, Keeps}
+use Rattle.desk.specs.State.{State, DeskWithRoom}
 use Rattle.desk.specs.Steps.{IsAppended, next_entry}
 use Rattle.desk.specs.Tied.{HasTurn}
 use Rattle.desk.specs.Victims.{AreSettled}
@@ -328,8 +328,8 @@ module _ {D : Type 0} (seen : D → DiskSeen) where
       }
 
   -- the answer has its place and its room behind the writes
-  pub answer_fits : (old new : Kept D) (by : Caller) (most n : ℕ) → MayWriteBack most old → LeavesDesk seen old.state new.state → LeavesRoom old new
-      → WritesBack old.state.config.first by n old.state.history new.state.history → n ≤ most → n ≤ length (dirty old.state.history) → HasPlaces 1 new
+  pub answer_fits : (old new : DeskWithRoom D) (by : Caller) (most n : ℕ) → MayWriteBack most old → LeavesDesk seen old.state new.state → LeavesRoom old new
+      → WritesBack old.state.config.first by n old.state.history new.state.history → n ≤ most → n ≤ length (dirty old.state.history) → HasRoomFor 1 new
   answer_fits old new by most n may left room writes le few =
       let count = writes_count old.state.config.first by n old.state.history new.state.history writes in
       let first = ap (λ (c : Config). c.first) left.config in

@@ -4,7 +4,7 @@ use Rattle.std.proofs.Common.{◌≡◌, ◌∷◌, ◌++◌, ℕ, Bool, true, f
 use Rattle.page_ids.specs.declared.config.Config.{Config}
 use Rattle.page_ids.specs.declared.frame_word.Word.{Word}
 use Rattle.page_ids.specs.declared.ids.PageId.{PageId}
-use Rattle.trail.specs.Book.{Book, book, book_after, frame_in_turn, use_frame, give, give_next, is_inside, is_late, is_owner}
+use Rattle.trail.specs.Book.{Book, book, book_after, frame_in_turn, use_frame, give, give_next, is_in_area, is_late, is_owner}
 use Rattle.trail.specs.declared.event.Call.{Call}
 use Rattle.trail.specs.declared.event.Cause.{Cause}
 use Rattle.trail.specs.declared.event.Entry.{Entry}
@@ -73,7 +73,7 @@ module _ {D : Type 0} where
 
       by_owner : (t : Bool) → (book new.config new.history).hands ≡ (let b = book old.config old.history in let after : Book = cond t (give old.config.frames f b) (record b { hands = own ∷ b.hands }) in after.hands) → HasOwnAlone new by
       by_owner false is = inr (f, is ∙ ap (λ (hands : List Hand). own ∷ hands) none)
-      by_owner true is = inl (is ∙ by_area (is_inside old.config.frames (book old.config old.history) f))
+      by_owner true is = inl (is ∙ by_area (is_in_area old.config.frames (book old.config old.history) f))
         where
           by_area : (t : Bool)
               → (let b = book old.config old.history in let used = use_frame f b in let after : Book = cond t (record used { withdrawn = b.withdrawn ++ f ∷ [] }) (record used { free = used.free ++ f ∷ [] }) in after.hands) ≡ []

@@ -27,14 +27,14 @@ use Rattle.desk.specs.Base.{Opened}
 use Rattle.desk.specs.Behind.{IsBehind}
 use Rattle.desk.specs.Changes.{LeavesDesk}
 use Rattle.desk.specs.Claimed.{HasLooked}
-use Rattle.desk.specs.Creating.{IsCreateRefusal, IsUnused, create_err_of}
+use Rattle.desk.specs.Creating.{IsCreateRefusal, LeavesLog, create_err_of}
 use Rattle.desk.specs.Fixing.{IsFixRefusal, IsUnlogged, fix_err_of}
 use Rattle.desk.specs.Ledger.{entry_behind}
 use Rattle.desk.specs.Loads.{IsOneMore, MayFix}
 use Rattle.desk.specs.Logged.{IsLogged, IsLoggedKind, IsMarkBehind, AreUpTo, IsUpTo}
-use Rattle.desk.specs.Moments.{LogSeen, log_seen, Moment, moment, IsEmptyHanded, IsAtRest, IsUnderWay, IsReady, Follows, Came, KeepsTo, Keeps, Proceeds, UsesLog, IsAsLong, Adds, IsSameDevice}
+use Rattle.desk.specs.Moments.{LogSeen, log_seen, Moment, moment, IsEmptyHanded, IsAtRest, IsBetweenSteps, IsReady, Follows, Came, KeepsTo, Keeps, Proceeds, UsesLog, IsAsLong, Adds, IsSameDevice}
 use Rattle.desk.specs.State.{State}
-use Rattle.desk.specs.Steps.{IsAppended, OnlyReads, IsRefused, next_entry}
+use Rattle.desk.specs.Steps.{IsAppended, OnlyReads, RefusesCall, next_entry}
 use Rattle.desk.specs.Tied.{AreTied}
 use Rattle.desk.specs.Victims.{AreSettled, AsksFor, MustCover}
 use Rattle.desk.specs.declared.calls.Caller.{Caller}
@@ -97,7 +97,7 @@ module _ {D : Type 0} where
   uses_one l m n one same x = subst (λ (g : LogSeen). UsesLog l (moment n.desk n.frames g)) (sym same) (record { upto = one.upto m.log.seen.durable l.desk.history x.upto; mark = x.mark })
 
   -- a refusal does not use the log
-  pub uses_refused : (m n : Moment D) (by : Caller) (asked : Call) (why : Cause) → IsRefused m.desk n.desk by asked why → n.log ≡ m.log → UsesLog m n
+  pub uses_refused : (m n : Moment D) (by : Caller) (asked : Call) (why : Cause) → RefusesCall m.desk n.desk by asked why → n.log ≡ m.log → UsesLog m n
   uses_refused m n by asked why a same =
       uses_more m m n by (kind.Refused asked why) (λ mark. tt) a (ap (λ (l : LogSeen). l.seen.durable) same) (uses_none m)
 
@@ -118,7 +118,7 @@ module _ {D : Type 0} (seen : D → DiskSeen) where
   }
 
   -- a call that is at rest may go on, and steps that leave no frame in hand are a call
-  pub under_way : (desk : State D) (s : FramesSeen) (by : Caller) → IsAtRest seen desk s → IsUnderWay seen by desk s
+  pub under_way : (desk : State D) (s : FramesSeen) (by : Caller) → IsAtRest seen desk s → IsBetweenSteps seen by desk s
   under_way desk s by rest = record { tied = rest.tied; settled = rest.settled; hand = inl rest.hands }
 
   keeps_ending : {Leaves : State D → FramesSeen → Type 0} (Ends : State D → FramesSeen → Type 0) (most : ℕ) (m n : Moment D) → KeepsTo seen Leaves most m n → Ends n.desk n.frames → KeepsTo seen Ends most m n
@@ -136,7 +136,7 @@ module _ {D : Type 0} (seen : D → DiskSeen) where
   }
 
   pub keeps_going : (most : ℕ) (m n : Moment D) (by : Caller) → Keeps seen most m n → Proceeds seen by most m n
-  keeps_going most m n by k = keeps_ending (IsUnderWay seen by) most m n k (under_way n.desk n.frames by k.rest)
+  keeps_going most m n by k = keeps_ending (IsBetweenSteps seen by) most m n k (under_way n.desk n.frames by k.rest)
 
   pub keeps_ended : (most : ℕ) (m n : Moment D) (by : Caller) → Proceeds seen by most m n → IsEmptyHanded n.desk → Keeps seen most m n
   keeps_ended most m n by k none = keeps_ending (IsAtRest seen) most m n k (record { tied = k.rest.tied; settled = k.rest.settled; hands = none })
@@ -224,7 +224,7 @@ module _ {D : Type 0} (seen : D → DiskSeen) where
     behind = λ o based before. before;
   }
 
-  pub read_under_way : (old mid : State D) (s t : FramesSeen) (by : Caller) → OnlyReads seen old mid → t ≡ s → AreTied seen t mid → IsUnderWay seen by old s → IsUnderWay seen by mid t
+  pub read_under_way : (old mid : State D) (s t : FramesSeen) (by : Caller) → OnlyReads seen old mid → t ≡ s → AreTied seen t mid → IsBetweenSteps seen by old s → IsBetweenSteps seen by mid t
   read_under_way old mid s t by reads same tied rest = record {
     tied = tied;
     settled = subst (λ (x : FramesSeen). AreSettled x.rows) (sym same) rest.settled;
@@ -307,7 +307,7 @@ module _ {D : Type 0} (seen : D → DiskSeen) where
 
   -- a fix was refused, and the log was not used
   pub unfixed_still : (old new : State D) (s t : FramesSeen) (l : LogSeen) (by : Caller) (held : ℕ) (p : PageId) (now : ℕ) (e : FixErr) (why : Cause)
-      → IsFixRefusal seen old new s.rows t.rows by held p now l.seen.durable l.seen.faults l.seen.faults e → IsRefused old new by (call.Fix p now) why → IsUnlogged l l e → ((bad : BadPage) → e ≡ unfix.BadPage bad → ⊥)
+      → IsFixRefusal seen old new s.rows t.rows by held p now l.seen.durable l.seen.faults l.seen.faults e → RefusesCall old new by (call.Fix p now) why → IsUnlogged l l e → ((bad : BadPage) → e ≡ unfix.BadPage bad → ⊥)
       → Unfixed seen (moment old s l) (moment new t l) by held p now e
   unfixed_still old new s t l by held p now e why refused entry unused sound = record {
     refused = refused;
@@ -321,7 +321,7 @@ module _ {D : Type 0} (seen : D → DiskSeen) where
 
   -- and so a create
   pub uncreated_still : (old new : State D) (s t : FramesSeen) (l : LogSeen) (by : Caller) (held : ℕ) (p : PageId) (now : ℕ) (e : CreateErr) (why : Cause)
-      → IsCreateRefusal seen old new s.rows t.rows by held p now l.seen.durable l.seen.end l.seen.end l.seen.faults l.seen.faults e → IsRefused old new by (call.Create p now) why → IsUnused l l e
+      → IsCreateRefusal seen old new s.rows t.rows by held p now l.seen.durable l.seen.end l.seen.end l.seen.faults l.seen.faults e → RefusesCall old new by (call.Create p now) why → LeavesLog l l e
       → Uncreated seen (moment old s l) (moment new t l) by held p now e
   uncreated_still old new s t l by held p now e why refused entry unused = record {
     refused = refused;

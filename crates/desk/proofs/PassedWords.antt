@@ -15,7 +15,7 @@ use Rattle.page_ids.specs.declared.frame_word.Word.{Word}
 use Rattle.page_ids.specs.declared.ids.PageId.{PageId}
 use Rattle.trail.specs.declared.event.Entry.{Entry}
 use Rattle.trail.specs.History.{home}
-use Rattle.trail.specs.Words.{IsFixedWord, AreFixedWords, frames_of}
+use Rattle.trail.specs.Words.{IsFixedWord, AreFixedWords, frames_told}
 use Rattle.trail.specs.Victim.{ArePassed}
 use Rattle.frame_words.specs.Conditions.{IsUncovered, FindsUnfixed, AreFound}
 use Rattle.frame_words.specs.Rows.{Row, IsFound, claimed_row}
@@ -129,25 +129,25 @@ passed_push h rows found pages passed p f w are housed fixed seen some here = re
 
 -- each page that was passed has its frame's word
 each_passed : (h : List Entry) (pages : List PageId) (passed : List (ℕ × Word)) → map (home h) pages ≡ map (λ (x : ℕ × Word). Some x.0) passed
-    → (q : PageId) → Contains pages q → (f : ℕ) × (home h q ≡ Some f) × Contains (frames_of passed) f
+    → (q : PageId) → Contains pages q → (f : ℕ) × (home h q ≡ Some f) × Contains (frames_told passed) f
 each_passed h [] passed homes q here = let l = here.1 in absurd (omega (arith, l))
 each_passed h (p ∷ ps) [] homes q here = absurd (cc)
 each_passed h (p ∷ ps) (x ∷ xs) homes q here =
     let first : home h p ≡ Some x.0 = cc in
     let rest : map (home h) ps ≡ map (λ (x : ℕ × Word). Some x.0) xs = cc in
     elim (contains_cases p q ps here) [
-      | inl same ↦ (x.0, ap (home h) (sym same) ∙ first, contains_first x.0 (frames_of xs))
-      | inr more ↦ let found = each_passed h ps xs rest q more in (found.0, found.1, contains_more x.0 found.0 (frames_of xs) found.2)
+      | inl same ↦ (x.0, ap (home h) (sym same) ∙ first, contains_first x.0 (frames_told xs))
+      | inr more ↦ let found = each_passed h ps xs rest q more in (found.0, found.1, contains_more x.0 found.0 (frames_told xs) found.2)
     ]
 
 only_passed : (h : List Entry) (pages : List PageId) (passed : List (ℕ × Word)) → map (home h) pages ≡ map (λ (x : ℕ × Word). Some x.0) passed
-    → (f : ℕ) → Contains (frames_of passed) f → (q : PageId) × Contains pages q × (home h q ≡ Some f)
+    → (f : ℕ) → Contains (frames_told passed) f → (q : PageId) × Contains pages q × (home h q ≡ Some f)
 only_passed h pages [] homes f here = let l = here.1 in absurd (omega (arith, l))
 only_passed h [] (x ∷ xs) homes f here = absurd (cc)
 only_passed h (p ∷ ps) (x ∷ xs) homes f here =
     let first : home h p ≡ Some x.0 = cc in
     let rest : map (home h) ps ≡ map (λ (x : ℕ × Word). Some x.0) xs = cc in
-    elim (contains_cases x.0 f (frames_of xs) here) [
+    elim (contains_cases x.0 f (frames_told xs) here) [
       | inl same ↦ (p, contains_first p ps, first ∙ ap (λ (n : ℕ). Some n) same)
       | inr more ↦ let found = only_passed h ps xs rest f more in (found.0, contains_more p found.0 ps found.1, found.2)
     ]
@@ -249,8 +249,8 @@ rising_from (w ∷ v ∷ ws) sorted apart = (above, rising_from (v ∷ ws) less 
 
 -- the words are those of just these pages
 pub record AreJustOf (h : List Entry) (pages : List PageId) (passed : List (ℕ × Word)) : Type 0 where
-  pub each : (q : PageId) → Contains pages q → (f : ℕ) × (home h q ≡ Some f) × Contains (frames_of passed) f
-  pub only : (f : ℕ) → Contains (frames_of passed) f → (q : PageId) × Contains pages q × (home h q ≡ Some f)
+  pub each : (q : PageId) → Contains pages q → (f : ℕ) × (home h q ≡ Some f) × Contains (frames_told passed) f
+  pub only : (f : ℕ) → Contains (frames_told passed) f → (q : PageId) × Contains pages q × (home h q ≡ Some f)
   pub fixed : AreFixedWords h passed
 
 pub just_passed : (h : List Entry) (pages : List PageId) (passed : List (ℕ × Word)) → AreJustOf h pages passed → ArePassed h pages passed
@@ -302,8 +302,8 @@ in_order_are h rows found pages passed words are once same sorted =
     let frames_back = IsPermutation-map (λ (x : ℕ × Word). x.0) words passed back in
     record {
       passed_are = record {
-        each = λ q here. let found = each_passed h pages passed are.homes q here in (found.0, found.1, Contains-permutation (frames_of passed) (frames_of words) found.0 frames found.2);
-        only = λ f here. only_passed h pages passed are.homes f (Contains-permutation (frames_of words) (frames_of passed) f frames_back here);
+        each = λ q here. let found = each_passed h pages passed are.homes q here in (found.0, found.1, Contains-permutation (frames_told passed) (frames_told words) found.0 frames found.2);
+        only = λ f here. only_passed h pages passed are.homes f (Contains-permutation (frames_told words) (frames_told passed) f frames_back here);
         fixed = fixed_all h words (λ x here. fixed_at h passed x are.fixed (Contains-permutation words passed x back here));
       };
       seen = seen_all rows words (λ x here. seen_at rows passed x are.seen (Contains-permutation words passed x back here));
@@ -315,35 +315,35 @@ in_order_are h rows found pages passed words are once same sorted =
           omega (arith, sum, most));
     }
 
-above_all : (f : ℕ) (ws : List (ℕ × Word)) → IsAbove f ws → AreRising ws → (g : ℕ) → Contains (frames_of ws) g → f < g
+above_all : (f : ℕ) (ws : List (ℕ × Word)) → IsAbove f ws → AreRising ws → (g : ℕ) → Contains (frames_told ws) g → f < g
 above_all f [] above rising g here = let l = here.1 in absurd (omega (arith, l))
-above_all f (w ∷ ws) above rising g here = elim (contains_cases w.0 g (frames_of ws) here) [
+above_all f (w ∷ ws) above rising g here = elim (contains_cases w.0 g (frames_told ws) here) [
   | inl same ↦ omega (arith, above, same)
   | inr more ↦ let later = above_all w.0 ws rising.0 rising.1 g more in omega (arith, above, later)
 ]
 
 -- rising words of just the frames of a range are those of the frames one after the other
-pub frames_are : (k n : ℕ) (ws : List (ℕ × Word)) → AreRising ws → ((f : ℕ) → k ≤ f → f < k + n → Contains (frames_of ws) f) → ((f : ℕ) → Contains (frames_of ws) f → (k ≤ f) × (f < k + n))
-    → frames_of ws ≡ rising k n
+pub frames_are : (k n : ℕ) (ws : List (ℕ × Word)) → AreRising ws → ((f : ℕ) → k ≤ f → f < k + n → Contains (frames_told ws) f) → ((f : ℕ) → Contains (frames_told ws) f → (k ≤ f) × (f < k + n))
+    → frames_told ws ≡ rising k n
 frames_are k zero [] rises all only = refl
-frames_are k zero (w ∷ ws) rises all only = let bad = only w.0 (contains_first w.0 (frames_of ws)) in absurd (omega (arith, bad.0, bad.1))
+frames_are k zero (w ∷ ws) rises all only = let bad = only w.0 (contains_first w.0 (frames_told ws)) in absurd (omega (arith, bad.0, bad.1))
 frames_are k (suc n) [] rises all only = let bad = (all k (omega arith) (omega arith)).1 in absurd (omega (arith, bad))
 frames_are k (suc n) (w ∷ ws) rises all only =
-    let within = only w.0 (contains_first w.0 (frames_of ws)) in
-    let first : w.0 ≡ k = elim (contains_cases w.0 k (frames_of ws) (all k (omega arith) (omega arith))) [
+    let within = only w.0 (contains_first w.0 (frames_told ws)) in
+    let first : w.0 ≡ k = elim (contains_cases w.0 k (frames_told ws) (all k (omega arith) (omega arith))) [
       | inl same ↦ same
       | inr more ↦ let later = above_all w.0 ws rises.0 rises.1 k more in absurd (omega (arith, later, within.0))
     ] in
-    let rest : frames_of ws ≡ rising (k + 1) n = frames_are (k + 1) n ws rises.1
-    (λ f least most. elim (contains_cases w.0 f (frames_of ws) (all f (omega (arith, least)) (omega (arith, most)))) [
+    let rest : frames_told ws ≡ rising (k + 1) n = frames_are (k + 1) n ws rises.1
+    (λ f least most. elim (contains_cases w.0 f (frames_told ws) (all f (omega (arith, least)) (omega (arith, most)))) [
       | inl same ↦ absurd (omega (arith, same, first, least))
       | inr more ↦ more
     ])
     (λ f here.
     let later = above_all w.0 ws rises.0 rises.1 f here in
-    let inside = only f (contains_more w.0 f (frames_of ws) here) in
+    let inside = only f (contains_more w.0 f (frames_told ws) here) in
     (omega (arith, later, first), omega (arith, inside.1))) in
-    ap (λ (g : ℕ). g ∷ frames_of ws) first ∙ ap (λ (l : List ℕ). k ∷ l) rest
+    ap (λ (g : ℕ). g ∷ frames_told ws) first ∙ ap (λ (l : List ℕ). k ∷ l) rest
 
 -- a frame was claimed behind a look at it
 pub taken_after : (old mid new : FramesSeen) (h : List Entry) (p : PageId) (f : ℕ) (w : Word) (image : Option (Option Content)) → mid ≡ noted old f w → Finds old f w → IsUncovered mid f image → FindsUnfixed mid f

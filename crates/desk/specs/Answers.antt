@@ -18,14 +18,14 @@ use Rattle.frame_words.specs.Seen.{FramesSeen}
 use Rattle.desk.specs.Base.{Opened}
 use Rattle.desk.specs.Behind.{IsBehind}
 use Rattle.desk.specs.Changes.{IsPutBy, IsPutRefusal}
-use Rattle.desk.specs.Creating.{IsCreatedBy, IsCreateRefusal, IsUnused}
+use Rattle.desk.specs.Creating.{IsCreatedBy, IsCreateRefusal, LeavesLog}
 use Rattle.desk.specs.Fixing.{IsGrantedBy, IsFixRefusal, IsUnlogged, NeedsNoVictim}
 use Rattle.instance_lists.specs.Ledger.{IsVacant}
-use Rattle.desk.specs.Loads.{MayFix, MayRefuse}
+use Rattle.desk.specs.Loads.{MayFix, MayRefuseWordless}
 use Rattle.desk.specs.Logged.{create_change, put_change}
 use Rattle.desk.specs.Moments.{IsEmptyHanded, Moment, UsesLog, IsAsLong, Adds, IsSameDevice}
 use Rattle.desk.specs.State.{State}
-use Rattle.desk.specs.Steps.{IsRefused, IsLoaded}
+use Rattle.desk.specs.Steps.{RefusesCall, IsLoaded}
 use Rattle.desk.specs.Tied.{HasTurn, IsOwn}
 use Rattle.desk.specs.Victims.{AsksFor, IsHad, IsUnhad, IsUnforced, LeavesTurn, MustCover}
 use Rattle.instance_lists.specs.Walk.{AreOrderly}
@@ -48,11 +48,11 @@ pub record IsRefusable {D : Type 0} (frames : FramesSeen) (desk : State D) (by :
   pub turn : HasTurn frames by
   pub own : IsOwn frames desk p
   pub for_page : AsksFor p asked
-  pub may : MayRefuse frames asked why
+  pub may : MayRefuseWordless frames asked why
 
 -- the refusal was appended, and nothing else happened
 pub record Refuses {D : Type 0} (old new : State D) (rows now : List Row) (by : Caller) (asked : Call) (why : Cause) : Type 0 where
-  pub entry : IsRefused old new by asked why
+  pub entry : RefusesCall old new by asked why
   pub unmoved : now ≡ rows
   pub disk : new.disk ≡ old.disk
 
@@ -70,7 +70,7 @@ pub record IsOccupied {D : Type 0} (desk : State D) : Type 0 where
   pub full : (f : ℕ) → f < desk.config.frames → (p : PageId) × (home desk.history p ≡ Some f)
 
 -- the frame is the next one, in which no page is at home
-pub record IsNext {D : Type 0} (desk : State D) (f : ℕ) : Type 0 where
+pub record IsNextFrame {D : Type 0} (desk : State D) (f : ℕ) : Type 0 where
   pub front : frame_in_turn (book desk.config desk.history) ≡ Some f
   pub below : f < desk.config.frames
   pub vacant : IsVacant desk.history f
@@ -90,7 +90,7 @@ pub record HasSought {D : Type 0} (seen : D → DiskSeen) (m n : Moment D) (p : 
 pub record Had {D : Type 0} (seen : D → DiskSeen) (m n : Moment D) (by : Caller) (p : PageId) (f : ℕ) : Type 0 where
   pub sought : HasSought seen m n p
   pub had : IsHad m.desk n.desk m.frames.rows n.frames.rows by f
-  pub next : IsNext n.desk f
+  pub next : IsNextFrame n.desk f
   pub turn : LeavesTurn m.frames n.frames
 
 pub record Unhad {D : Type 0} (seen : D → DiskSeen) (m n : Moment D) (by : Caller) (p : PageId) (asked : Call) (e : FrameErr) : Type 0 where
@@ -152,7 +152,7 @@ pub record Created {D : Type 0} (seen : D → DiskSeen) (m n : Moment D) (by : C
 
 pub record Uncreated {D : Type 0} (seen : D → DiskSeen) (m n : Moment D) (by : Caller) (held : ℕ) (p : PageId) (now : ℕ) (e : CreateErr) : Type 0 where
   pub refused : IsCreateRefusal seen m.desk n.desk m.frames.rows n.frames.rows by held p now m.log.seen.durable m.log.seen.end n.log.seen.end m.log.seen.faults n.log.seen.faults e
-  pub unused : IsUnused m.log n.log e
+  pub unused : LeavesLog m.log n.log e
   pub log : UsesLog m n
   pub as_long : IsAsLong m.log n.log
   pub covered : IsSameDevice m.log n.log ⊎ MustCover m.desk m.frames.rows m.log.seen.durable

@@ -37,7 +37,7 @@ pub record IsBehind {D : Type 0} (seen : D → DiskSeen) (o : Opened) (desk : St
   pub valued : (p : PageId) → is_written desk.history p ≡ true → IsSome (value o.size o.base desk.history p)
 
 -- a desk with an empty history over a disk that was just opened
-pub record IsOpening (o : Opened) (disk : DiskSeen) : Type 0 where
+pub record IsNewlyOpened (o : Opened) (disk : DiskSeen) : Type 0 where
   pub size_is : disk.size ≡ o.size
   pub pages_are : (space : ℕ) → o.pages space ≡ pages_in disk.spaces space
   pub told_are : (p : PageId) → disk.told p ≡ o.told p

@@ -26,7 +26,7 @@ use Rattle.desk.specs.Base.{Opened}
 use Rattle.desk.specs.Behind.{IsBehind}
 use Rattle.desk.specs.Changes.{IsImageTold, IsWriteFault, IsForced, LeavesDesk}
 use Rattle.desk.specs.Logged.{IsLogged, IsMarkBehind, AreUpTo}
-use Rattle.desk.specs.State.{State, Kept}
+use Rattle.desk.specs.State.{State, DeskWithRoom}
 use Rattle.desk.specs.Tied.{IsTied, AreStamped}
 use Rattle.desk.specs.Victims.{AreFoundOn, IsAhead, IsCleanedFirst, LeavesTurn}
 use Rattle.desk.specs.declared.calls.Caller.{Caller}
@@ -130,7 +130,7 @@ pub record CleanedClaimed {D : Type 0} (old new : State D) (by : Caller) (p : Pa
   pub clean : is_dirty new.history p ≡ false
 
 -- it is as dirty as it was, and nothing but the disk has changed
-pub record UncleanedClaimed {D : Type 0} (seen : D → DiskSeen) (old new : Kept D) (log now : Seen) (p : PageId) (e : WriteErr) : Type 0 where
+pub record UncleanedClaimed {D : Type 0} (seen : D → DiskSeen) (old new : DeskWithRoom D) (log now : Seen) (p : PageId) (e : WriteErr) : Type 0 where
   pub failed : new ≡ record old { state = record old.state { disk = new.state.disk } }
   pub soiled : is_dirty old.state.history p ≡ true
   pub fault : IsWriteFault (seen old.state.disk).faults (seen new.state.disk).faults log.faults now.faults e

@@ -16,7 +16,7 @@ use Rattle.desk.specs.Behind.{IsBehind}
 use Rattle.desk.specs.Changes.{IsWriteBack, WritesBack, IsWriteFault, IsForced, covered_to, AreMarked, IsCleanedBy, IsCleaned}
 use Rattle.desk.specs.Moments.{Moment}
 use Rattle.desk.specs.Reads.{RoseWithin}
-use Rattle.desk.specs.State.{State, Kept}
+use Rattle.desk.specs.State.{State, DeskWithRoom}
 use Rattle.desk.specs.Tied.{HasTurn}
 use Rattle.desk.specs.Writing.{IsLeftAt}
 use Rattle.desk.specs.declared.calls.Caller.{Caller}
@@ -27,7 +27,7 @@ use Rattle.desk.specs.declared.flush.WriteErr.{WriteErr}
 use Rattle.desk.specs.declared.flush.WriteErr.TheVariants as unwritten
 
 -- places and room for so many writes of dirty pages, and for the answer behind them
-pub record MayWriteBack {D : Type 0} (most : ℕ) (desk : Kept D) : Type 0 where
+pub record MayWriteBack {D : Type 0} (most : ℕ) (desk : DeskWithRoom D) : Type 0 where
   pub places : desk.state.config.first + length desk.state.history + length (dirty desk.state.history) + 1 < 2 ^ CLOCK_BITS
   pub room : (n : ℕ) → n ≤ most → n ≤ length (dirty desk.state.history) → n < desk.room
 
@@ -39,7 +39,7 @@ pub record IsFirstDirty (h : List Entry) (d : Dirty) : Type 0 where
   pub logged : d.newest ≤ log_end h
 
 -- each entry that came took the room of one
-abbrev pub LeavesRoom : {D : Type 0} → Kept D → Kept D → Type 0
+abbrev pub LeavesRoom : {D : Type 0} → DeskWithRoom D → DeskWithRoom D → Type 0
 LeavesRoom old new = old.room + length old.state.history ≤ new.room + length new.state.history
 
 -- The frames are as they were, the caller goes on with its turn, and the log has no record more.

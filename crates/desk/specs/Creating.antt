@@ -14,7 +14,7 @@ use Rattle.trail.specs.History.{home}
 use Rattle.frame_words.specs.Rows.{Row, laid_row, published_row, held_row}
 use Rattle.desk.specs.Fixing.{IsHeldFull, IsUnseated, IsUnwritten}
 use Rattle.desk.specs.State.{State}
-use Rattle.desk.specs.Steps.{IsAppended, IsRefused, IsOutside, row_in}
+use Rattle.desk.specs.Steps.{IsAppended, RefusesCall, IsPastEnd, row_in}
 use Rattle.instance_lists.specs.Ledger.{IsVacant}
 use Rattle.desk.specs.Victims.{IsHad, MustWrite, MustCover}
 use Rattle.desk.specs.declared.calls.Caller.{Caller}
@@ -55,9 +55,9 @@ pub record IsCreatedBy {D : Type 0} (old new : State D) (rows rows' : List Row) 
   pub made : IsMade had new cleared rows' by p now start g
 
 -- the page is resident; nothing else happened
-pub record IsAtHome {D : Type 0} (old new : State D) (by : Caller) (p : PageId) (now f : ℕ) : Type 0 where
+pub record IsFoundAtHome {D : Type 0} (old new : State D) (by : Caller) (p : PageId) (now f : ℕ) : Type 0 where
   pub resident : home old.history p ≡ Some f
-  pub entry : IsRefused old new by (call.Create p now) (cause.Resident f)
+  pub entry : RefusesCall old new by (call.Create p now) (cause.Resident f)
   pub disk : new.disk ≡ old.disk
 
 -- a frame was had; the log ended here at the refusal, and the record would end above 2^63
@@ -68,18 +68,18 @@ pub record IsUncreated {D : Type 0} (old new : State D) (rows rows' : List Row) 
   pub frame_is : IsHad old had rows rows' by frame
   pub known : (first ≤ end) × (end ≤ last)
   pub beyond : LAST_LSN < end + RECORD_BYTES
-  pub entry : IsRefused had new by (call.Create p now) (cause.LogSpent end)
+  pub entry : RefusesCall had new by (call.Create p now) (cause.LogSpent end)
   pub disk : new.disk ≡ had.disk
 
 -- Why a create was refused, and what stands then: nothing has changed, or the refusal was appended. The log was durable up to `durable`, its end went from
 -- `first` to `last`, and its count of faults from `was` to `is`.
 abbrev pub IsCreateRefusal : {D : Type 0} → (D → DiskSeen) → State D → State D → List Row → List Row → Caller → ℕ → PageId → ℕ → ℕ → ℕ → ℕ → ℕ → ℕ → CreateErr → Type 0
 IsCreateRefusal seen old new rows rows' by held p now durable first last was is refusal.OutOfMemory = (new ≡ old) × (rows' ≡ rows)
-IsCreateRefusal seen old new rows rows' by held p now durable first last was is (refusal.NoSuchPage pages) = IsOutside seen old new by p (call.Create p now) pages × (rows' ≡ rows)
+IsCreateRefusal seen old new rows rows' by held p now durable first last was is (refusal.NoSuchPage pages) = IsPastEnd seen old new by p (call.Create p now) pages × (rows' ≡ rows)
 IsCreateRefusal seen old new rows rows' by held p now durable first last was is (refusal.HoldFull full) =
     (p.page < pages_in (seen old.disk).spaces p.space) × IsHeldFull old new by (call.Create p now) held full × (rows' ≡ rows)
 IsCreateRefusal seen old new rows rows' by held p now durable first last was is (refusal.Resident f) =
-    (p.page < pages_in (seen old.disk).spaces p.space) × (held < MOST_FIXES) × IsAtHome old new by p now f × (rows' ≡ rows)
+    (p.page < pages_in (seen old.disk).spaces p.space) × (held < MOST_FIXES) × IsFoundAtHome old new by p now f × (rows' ≡ rows)
 IsCreateRefusal seen old new rows rows' by held p now durable first last was is (refusal.AllFixed words) =
     (p.page < pages_in (seen old.disk).spaces p.space) × (held < MOST_FIXES) × IsUnseated old new rows by p (call.Create p now) words × (rows' ≡ rows)
 IsCreateRefusal seen old new rows rows' by held p now durable first last was is (refusal.RedoFault before after) =
@@ -99,12 +99,12 @@ create_err_of (unhad.RedoFault before after) = refusal.RedoFault before after
 create_err_of (unhad.DiskFault before after) = refusal.DiskFault before after
 
 -- the log is as it was at a refusal for which no frame was had, but for a device's fault
-abbrev pub IsUnused : {L : Type 0} → L → L → CreateErr → Type 0
-IsUnused old new refusal.OutOfMemory = new ≡ old
-IsUnused old new (refusal.NoSuchPage pages) = new ≡ old
-IsUnused old new (refusal.HoldFull held) = new ≡ old
-IsUnused old new (refusal.Resident f) = new ≡ old
-IsUnused old new (refusal.AllFixed words) = new ≡ old
-IsUnused old new (refusal.RedoFault before after) = ⊤
-IsUnused old new (refusal.DiskFault before after) = ⊤
-IsUnused old new (refusal.LogSpent end) = ⊤
+abbrev pub LeavesLog : {L : Type 0} → L → L → CreateErr → Type 0
+LeavesLog old new refusal.OutOfMemory = new ≡ old
+LeavesLog old new (refusal.NoSuchPage pages) = new ≡ old
+LeavesLog old new (refusal.HoldFull held) = new ≡ old
+LeavesLog old new (refusal.Resident f) = new ≡ old
+LeavesLog old new (refusal.AllFixed words) = new ≡ old
+LeavesLog old new (refusal.RedoFault before after) = ⊤
+LeavesLog old new (refusal.DiskFault before after) = ⊤
+LeavesLog old new (refusal.LogSpent end) = ⊤

@@ -13,7 +13,7 @@ use Rattle.trail.specs.History.{home}
 use Rattle.frame_words.specs.Rows.{Row}
 use Rattle.desk.specs.Reads.{RoseWithin}
 use Rattle.desk.specs.State.{State}
-use Rattle.desk.specs.Steps.{IsLoaded, IsHit, IsRefused, IsOutside, IsFaulted, IsUnsound}
+use Rattle.desk.specs.Steps.{IsLoaded, IsHit, RefusesCall, IsPastEnd, IsFaulted, IsUnsound}
 use Rattle.desk.specs.Victims.{IsHad, IsFull, MustWrite, MustCover}
 use Rattle.desk.specs.declared.calls.Caller.{Caller}
 use Rattle.desk.specs.declared.calls.Granted.{Granted}
@@ -42,21 +42,21 @@ IsGrantedBy seen old new rows rows' by p now g = IsHit old new rows rows' by p n
 pub record IsHeldFull {D : Type 0} (old new : State D) (by : Caller) (asked : Call) (held full : ℕ) : Type 0 where
   pub full_is : full ≡ held
   pub most : MOST_FIXES ≤ held
-  pub entry : IsRefused old new by asked (cause.HoldFull full)
+  pub entry : RefusesCall old new by asked (cause.HoldFull full)
   pub disk : new.disk ≡ old.disk
 
 -- no frame was free, and every frame was seen with a fix
 pub record IsUnseated {D : Type 0} (old new : State D) (rows : List Row) (by : Caller) (p : PageId) (asked : Call) (seen : List (ℕ × Word)) : Type 0 where
   pub absent : home old.history p ≡ None
   pub full : IsFull old rows p seen
-  pub entry : IsRefused old new by asked (cause.AllFixed seen)
+  pub entry : RefusesCall old new by asked (cause.AllFixed seen)
   pub disk : new.disk ≡ old.disk
 
 -- A page that had to leave (`MustWrite`) could not be written: the count of faults of the log or of the disk rose so. It is as dirty as it was.
 pub record IsUnwritten {D : Type 0} (old new : State D) (by : Caller) (p : PageId) (asked : Call) (was is before after : ℕ) (why : Cause) : Type 0 where
   pub absent : home old.history p ≡ None
   pub rose : RoseWithin was is before after
-  pub entry : IsRefused old new by asked why
+  pub entry : RefusesCall old new by asked why
 
 -- a frame was had, and the page could not be read into it, for this reason; the disk told of the page what it told before the call
 pub record IsUnread {D : Type 0} (seen : D → DiskSeen) (old : State D) (rows rows' : List Row) (by : Caller) (p : PageId) (why : State D → Type 0) : Type 0 where
@@ -71,7 +71,7 @@ pub record IsUnread {D : Type 0} (seen : D → DiskSeen) (old : State D) (rows r
 -- faults went from `was` to `is`.
 abbrev pub IsFixRefusal : {D : Type 0} → (D → DiskSeen) → State D → State D → List Row → List Row → Caller → ℕ → PageId → ℕ → ℕ → ℕ → ℕ → FixErr → Type 0
 IsFixRefusal seen old new rows rows' by held p now durable was is refusal.OutOfMemory = (new ≡ old) × (rows' ≡ rows)
-IsFixRefusal seen old new rows rows' by held p now durable was is (refusal.NoSuchPage pages) = IsOutside seen old new by p (call.Fix p now) pages × (rows' ≡ rows)
+IsFixRefusal seen old new rows rows' by held p now durable was is (refusal.NoSuchPage pages) = IsPastEnd seen old new by p (call.Fix p now) pages × (rows' ≡ rows)
 IsFixRefusal seen old new rows rows' by held p now durable was is (refusal.HoldFull full) =
     (p.page < pages_in (seen old.disk).spaces p.space) × IsHeldFull old new by (call.Fix p now) held full × (rows' ≡ rows)
 IsFixRefusal seen old new rows rows' by held p now durable was is (refusal.AllFixed words) =

@@ -37,7 +37,7 @@ pub record IsInImage (told : Option (List ℕ)) (s : FramesSeen) (p : PageId) (f
   pub read : IfSome told (λ bytes. IsPage p bytes content)
 
 -- the cause has no word, and may refuse this call of a caller with these open fixes
-pub record MayRefuse (s : FramesSeen) (asked : Call) (why : Cause) : Type 0 where
+pub record MayRefuseWordless (s : FramesSeen) (asked : Call) (why : Cause) : Type 0 where
   pub words : cause_words asked why ≡ []
   pub fits : IfSome s.opened (λ opened. FitsRefusal opened asked why)
 

@@ -20,7 +20,7 @@ use Rattle.desk.specs.Base.{Opened}
 use Rattle.desk.specs.Behind.{IsBehind}
 use Rattle.desk.specs.Changes.{LeavesDesk}
 use Rattle.desk.specs.Logged.{IsLogged, IsMarkBehind, AreUpTo}
-use Rattle.desk.specs.State.{State, Kept}
+use Rattle.desk.specs.State.{State, DeskWithRoom}
 use Rattle.desk.specs.Tied.{AreTied, HasTurn}
 use Rattle.desk.specs.Victims.{AreSettled}
 use Rattle.desk.specs.declared.calls.Caller.{Caller}
@@ -43,11 +43,11 @@ pub record Moment (D : Type 0) : Type 0 where
 abbrev pub moment : {D : Type 0} → State D → FramesSeen → LogSeen → Moment D
 moment desk frames log = record { desk = desk; frames = frames; log = log }
 
-abbrev pub moment_of : {D F R : Type 0} → (F → FramesSeen) → (R → RedoSeen) → Kept D → F → log.State R → Moment D
+abbrev pub moment_of : {D F R : Type 0} → (F → FramesSeen) → (R → RedoSeen) → DeskWithRoom D → F → log.State R → Moment D
 moment_of frames seen k f l = moment k.state (frames f) (log_seen seen l)
 
 -- places and room for so many entries
-pub record HasPlaces {D : Type 0} (most : ℕ) (desk : Kept D) : Type 0 where
+pub record HasRoomFor {D : Type 0} (most : ℕ) (desk : DeskWithRoom D) : Type 0 where
   pub places : desk.state.config.first + length desk.state.history + most < 2 ^ CLOCK_BITS
   pub room : most ≤ desk.room
 
@@ -70,7 +70,7 @@ pub record IsAtRest {D : Type 0} (seen : D → DiskSeen) (desk : State D) (frame
   pub hands : IsEmptyHanded desk
 
 -- and between the steps of this call
-pub record IsUnderWay {D : Type 0} (seen : D → DiskSeen) (by : Caller) (desk : State D) (frames : FramesSeen) : Type 0 where
+pub record IsBetweenSteps {D : Type 0} (seen : D → DiskSeen) (by : Caller) (desk : State D) (frames : FramesSeen) : Type 0 where
   pub tied : AreTied seen frames desk
   pub settled : AreSettled frames.rows
   pub hand : HasOwnAlone desk by
@@ -121,7 +121,7 @@ Keeps seen most m n = KeepsTo seen (IsAtRest seen) most m n
 
 -- what steps of this call keep
 abbrev pub Proceeds : {D : Type 0} → (D → DiskSeen) → Caller → ℕ → Moment D → Moment D → Type 0
-Proceeds seen by most m n = KeepsTo seen (IsUnderWay seen by) most m n
+Proceeds seen by most m n = KeepsTo seen (IsBetweenSteps seen by) most m n
 
 -- What a call used of the log, which doesn't go on from call to call: each write that it appended says the durable mark behind it.
 pub record UsesLog {D : Type 0} (m n : Moment D) : Type 0 where

@@ -1,7 +1,7 @@
 -- Why a page was not read in.
 use Rattle.std.specs.Prelude.{ℕ, List, ◌≡◌, ◌≤◌, Option, IfSome}
 use Rattle.page_ids.specs.Faults.{Rose}
-use Rattle.page_ids.specs.Refusal.{IsBad}
+use Rattle.page_ids.specs.Refusal.{IsBadPage}
 use Rattle.page_ids.specs.declared.ids.PageId.{PageId}
 use Rattle.page_ids.specs.declared.layout.BadPage.{BadPage}
 use Rattle.desk.specs.declared.parts.ReadErr.{ReadErr}
@@ -11,10 +11,10 @@ use Rattle.desk.specs.declared.parts.ReadErr.TheVariants as refusal
 pub record IsBadRead (told : Option (List ℕ)) (p : PageId) (bad : BadPage) : Type 0 where
   pub bytes : List ℕ
   pub known : IfSome told (λ here. bytes ≡ here)
-  pub because : IsBad p bytes bad
+  pub because : IsBadPage p bytes bad
 
 -- the disk's count of faults went from the one to the other, and rose
-pub record IsFault (was is before after : ℕ) : Type 0 where
+pub record IsDiskFault (was is before after : ℕ) : Type 0 where
   pub first : before ≡ was
   pub last : after ≡ is
   pub rose : Rose before after
@@ -27,5 +27,5 @@ pub record RoseWithin (was is before after : ℕ) : Type 0 where
 
 -- the count of faults was so before the read and is so after it
 abbrev pub IsReadRefusal : Option (List ℕ) → ℕ → ℕ → PageId → ReadErr → Type 0
-IsReadRefusal told was is p (refusal.DiskFault before after) = IsFault was is before after
+IsReadRefusal told was is p (refusal.DiskFault before after) = IsDiskFault was is before after
 IsReadRefusal told was is p (refusal.BadPage bad) = IsBadRead told p bad

@@ -14,7 +14,7 @@ pub record State (D : Type 0) : Type 0 where
   pub disk : D
 
 -- beside it, for how many entries there is room
-pub record Kept (D : Type 0) : Type 0 where
+pub record DeskWithRoom (D : Type 0) : Type 0 where
   pub state : State D
   pub room : ℕ
 

@@ -24,7 +24,7 @@ use Rattle.desk.specs.declared.calls.Caller.{Caller}
 use Rattle.desk.specs.declared.calls.Granted.{Granted}
 use Rattle.desk.specs.declared.calls.FixErr.{FixErr}
 use Rattle.desk.specs.declared.calls.FixErr.TheVariants as refusal
-use Rattle.desk.specs.Reads.{IsFault, IsBadRead}
+use Rattle.desk.specs.Reads.{IsDiskFault, IsBadRead}
 
 -- the caller's entry at the next place
 abbrev pub next_entry : {D : Type 0} → State D → Caller → Kind → Entry
@@ -37,7 +37,7 @@ pub record IsAppended {D : Type 0} (old new : State D) (by : Caller) (k : Kind) 
   pub history : new.history ≡ next_entry old by k ∷ old.history
 
 -- one entry was appended, and the disk was not used
-pub record Appends {D : Type 0} (old new : State D) (by : Caller) (k : Kind) : Type 0 where
+pub record AppendsEntry {D : Type 0} (old new : State D) (by : Caller) (k : Kind) : Type 0 where
   pub entry : IsAppended old new by k
   pub disk : new.disk ≡ old.disk
 
@@ -77,24 +77,24 @@ pub record IsHit {D : Type 0} (old new : State D) (rows rows' : List Row) (by : 
   pub rows_are : rows' ≡ slice_set rows g.frame (held_row (row_in rows g.frame))
 
 -- the call was refused with this cause
-abbrev pub IsRefused : {D : Type 0} → State D → State D → Caller → Call → Cause → Type 0
-IsRefused old new by asked why = IsAppended old new by (kind.Refused asked why)
+abbrev pub RefusesCall : {D : Type 0} → State D → State D → Caller → Call → Cause → Type 0
+RefusesCall old new by asked why = IsAppended old new by (kind.Refused asked why)
 
 -- and so a fix
 abbrev pub IsRefusedFix : {D : Type 0} → State D → State D → Caller → PageId → ℕ → Cause → Type 0
-IsRefusedFix old new by p now why = IsRefused old new by (call.Fix p now) why
+IsRefusedFix old new by p now why = RefusesCall old new by (call.Fix p now) why
 
 -- the page lies outside its space; no device was used
-pub record IsOutside {D : Type 0} (seen : D → DiskSeen) (old new : State D) (by : Caller) (p : PageId) (asked : Call) (pages : ℕ) : Type 0 where
+pub record IsPastEnd {D : Type 0} (seen : D → DiskSeen) (old new : State D) (by : Caller) (p : PageId) (asked : Call) (pages : ℕ) : Type 0 where
   pub count : pages ≡ pages_in (seen old.disk).spaces p.space
   pub past_end : pages ≤ p.page
-  pub entry : IsRefused old new by asked (cause.NoSuchPage pages)
+  pub entry : RefusesCall old new by asked (cause.NoSuchPage pages)
   pub disk : new.disk ≡ old.disk
 
 -- the disk's count of faults rose so in the read of a page that was not resident
 pub record IsFaulted {D : Type 0} (seen : D → DiskSeen) (old new : State D) (by : Caller) (p : PageId) (now before after : ℕ) : Type 0 where
   pub absent : home old.history p ≡ None
-  pub fault : IsFault (seen old.disk).faults (seen new.disk).faults before after
+  pub fault : IsDiskFault (seen old.disk).faults (seen new.disk).faults before after
   pub entry : IsRefusedFix old new by p now (cause.DiskFault before after)
 
 -- the bytes that were read of a page that was not resident are no page of its id
@@ -114,7 +114,7 @@ IsLoadRefusal seen old new by p now (refusal.DiskFault before after) = IsFaulted
 IsLoadRefusal seen old new by p now (refusal.BadPage bad) = IsUnsound seen old new by p now bad
 
 -- nothing happened yet
-pub record IsFresh {D : Type 0} (desk : State D) (config : Config) (instance : ℕ) (disk : D) : Type 0 where
+pub record IsNewDesk {D : Type 0} (desk : State D) (config : Config) (instance : ℕ) (disk : D) : Type 0 where
   pub config_is : desk.config ≡ config
   pub instance_is : desk.instance ≡ instance
   pub history : desk.history ≡ []

@@ -59,8 +59,8 @@ pub record AreTied {D : Type 0} (seen : D → DiskSeen) (s : FramesSeen) (desk :
   pub valued : IfSome s.base (λ base. (o : Opened) × (o.base ≡ base) × IsBehind seen o desk s)
 
 -- each fix is told, so nobody else is there to latch a frame, and what each image holds is told
-abbrev pub AreAlone : FramesSeen → Type 0
-AreAlone s = (f : ℕ) → f < length s.rows → IsSome (row_at s f).held × IfSome (row_at s f).image (λ told. IsSome told)
+abbrev pub TellsAll : FramesSeen → Type 0
+TellsAll s = (f : ℕ) → f < length s.rows → IsSome (row_at s f).held × IfSome (row_at s f).image (λ told. IsSome told)
 
 -- where it is told whose turn it is, the caller has it, and this is the call's number
 abbrev pub HasTurn : FramesSeen → Caller → Type 0

@@ -20,7 +20,7 @@ use Rattle.frame_words.specs.Seen.{FramesSeen}
 use Rattle.desk.specs.Ledger.{entry_behind}
 use Rattle.desk.specs.State.{State}
 use Rattle.desk.specs.Reads.{RoseWithin}
-use Rattle.desk.specs.Steps.{row_in, IsRefused}
+use Rattle.desk.specs.Steps.{row_in, RefusesCall}
 use Rattle.desk.specs.declared.calls.Caller.{Caller}
 use Rattle.desk.specs.declared.calls.FrameErr.{FrameErr}
 use Rattle.desk.specs.declared.calls.FrameErr.TheVariants as refusal
@@ -63,14 +63,14 @@ pub record IsEvicted {D : Type 0} (old new : State D) (rows rows' : List Row) (b
   pub rows_are : rows' ≡ slice_set rows f (claimed_row (row_in rows f) image)
 
 -- a frame was free, and nothing happened
-pub record IsFree {D : Type 0} (old new : State D) (rows rows' : List Row) (f : ℕ) : Type 0 where
+pub record WasFree {D : Type 0} (old new : State D) (rows rows' : List Row) (f : ℕ) : Type 0 where
   pub front : frame_in_turn (book old.config old.history) ≡ Some f
   pub same : new ≡ old
   pub rows_are : rows' ≡ rows
 
 -- A frame is had: the next one, in which no page is at home.
 abbrev pub IsHad : {D : Type 0} → State D → State D → List Row → List Row → Caller → ℕ → Type 0
-IsHad old new rows rows' by f = IsFree old new rows rows' f ⊎ IsEvicted old new rows rows' by f
+IsHad old new rows rows' by f = WasFree old new rows rows' f ⊎ IsEvicted old new rows rows' by f
 
 -- no frame was free, and each one was found with a fix
 pub record IsFull {D : Type 0} (old : State D) (rows : List Row) (p : PageId) (seen : List (ℕ × Word)) : Type 0 where
@@ -87,11 +87,11 @@ pub record LeavesTurn (old new : FramesSeen) : Type 0 where
   pub base : new.base ≡ old.base
 
 -- The content of a resident frame's image is told exactly where its fixes are: others can only then not change it.
-abbrev pub IsSettled : Row → Type 0
-IsSettled r = MatchOption r.held (IfSome r.image (λ told. told ≡ None)) (λ held. IfSome r.image (λ told. IsSome told))
+abbrev pub IsRowSettled : Row → Type 0
+IsRowSettled r = MatchOption r.held (IfSome r.image (λ told. told ≡ None)) (λ held. IfSome r.image (λ told. IsSome told))
 
 abbrev pub AreSettled : List Row → Type 0
-AreSettled rows = (f : ℕ) → f < length rows → (row_in rows f).resident ≡ true → IsSettled (row_in rows f)
+AreSettled rows = (f : ℕ) → f < length rows → (row_in rows f).resident ≡ true → IsRowSettled (row_in rows f)
 
 -- A page has to be written before a frame is had: no frame is free, and the victim is dirty.
 pub record MustWrite {D : Type 0} (old : State D) (rows : List Row) : Type 0 where
@@ -136,11 +136,11 @@ AsksFor p (call.Resize bytes rounds) = ⊥
 abbrev pub IsUnhad : {D : Type 0} → State D → State D → List Row → Caller → PageId → Call → ℕ → ℕ → ℕ → ℕ → ℕ → FrameErr → Type 0
 IsUnhad old new rows by p asked disk_was disk_is durable log_was log_is refusal.OutOfMemory = new ≡ old
 IsUnhad old new rows by p asked disk_was disk_is durable log_was log_is (refusal.AllFixed seen) =
-    IsFull old rows p seen × IsRefused old new by asked (cause.AllFixed seen) × (new.disk ≡ old.disk)
+    IsFull old rows p seen × RefusesCall old new by asked (cause.AllFixed seen) × (new.disk ≡ old.disk)
 IsUnhad old new rows by p asked disk_was disk_is durable log_was log_is (refusal.RedoFault before after) =
-    RoseWithin log_was log_is before after × IsRefused old new by asked (cause.RedoFault before after) × MustCover old rows durable × (new.disk ≡ old.disk)
+    RoseWithin log_was log_is before after × RefusesCall old new by asked (cause.RedoFault before after) × MustCover old rows durable × (new.disk ≡ old.disk)
 IsUnhad old new rows by p asked disk_was disk_is durable log_was log_is (refusal.DiskFault before after) =
-    RoseWithin disk_was disk_is before after × IsRefused old new by asked (cause.DiskFault before after) × MustWrite old rows
+    RoseWithin disk_was disk_is before after × RefusesCall old new by asked (cause.DiskFault before after) × MustWrite old rows
 
 -- the log is as it was where no device failed
 abbrev pub IsUnforced : {L : Type 0} → L → L → FrameErr → Type 0

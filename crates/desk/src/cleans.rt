@@ -12,8 +12,8 @@ ghost use Rattle.frame_words.specs.Seen.{row_at, with_row};
 ghost use Rattle.desk.specs.Changes.{IsWriteFault, IsForced, LeavesDesk};
 ghost use Rattle.desk.specs.Claimed.{cause_of};
 ghost use Rattle.desk.specs.Cleans.{MayWriteBack, IsFirstDirty, LeavesRoom, StaysPut, WroteFirst, UnwroteFirst, NeedsNoLog, Flushes, LeavesClean, Cleans, clean_err_of};
-ghost use Rattle.desk.specs.Moments.{log_seen, moment_of, HasPlaces, IsReady, Keeps};
-ghost use Rattle.desk.specs.Tied.{AreAlone};
+ghost use Rattle.desk.specs.Moments.{log_seen, moment_of, HasRoomFor, IsReady, Keeps};
+ghost use Rattle.desk.specs.Tied.{TellsAll};
 ghost use Rattle.desk.specs.Writing.{Covers, Writes};
 
 use crate::calls::{Caller, CleanErr, Cleaned};
@@ -66,9 +66,9 @@ impl<D: PageDisk> Desk<D> {
         by: Caller,
         oldest: Dirty,
     ) -> Result<(), WriteErr>
-        requires entries { HasPlaces 1 self.old }
+        requires entries { HasRoomFor 1 self.old }
         requires ready { IsReady D.seen (moment_of F.seen R.seen self.old frames.old redo.old) by }
-        requires alone { AreAlone (F.seen frames.old) }
+        requires alone { TellsAll (F.seen frames.old) }
         requires first { IsFirstDirty self.old.state.history oldest }
         ensures keeps { Keeps D.seen 1
             (moment_of F.seen R.seen self.old frames.old redo.old)
@@ -130,7 +130,7 @@ impl<D: PageDisk> Desk<D> {
     ) -> Result<u32, WriteErr>
         requires entries { MayWriteBack most self.old }
         requires ready { IsReady D.seen (moment_of F.seen R.seen self.old frames.old redo.old) by }
-        requires alone { AreAlone (F.seen frames.old) }
+        requires alone { TellsAll (F.seen frames.old) }
         ensures keeps { Keeps D.seen (length (dirty self.old.state.history))
             (moment_of F.seen R.seen self.old frames.old redo.old)
             (moment_of F.seen R.seen self.new frames.new redo.new) }
@@ -181,7 +181,7 @@ impl<D: PageDisk> Desk<D> {
     ) -> Result<u32, WriteErr>
         requires entries { MayWriteBack most self.old }
         requires ready { IsReady D.seen (moment_of F.seen R.seen self.old frames.old redo.old) by }
-        requires alone { AreAlone (F.seen frames.old) }
+        requires alone { TellsAll (F.seen frames.old) }
         ensures keeps { Keeps D.seen (length (dirty self.old.state.history))
             (moment_of F.seen R.seen self.old frames.old redo.old)
             (moment_of F.seen R.seen self.new frames.new redo.new) }
@@ -230,7 +230,7 @@ impl<D: PageDisk> Desk<D> {
     ) -> Result<Cleaned, CleanErr>
         requires entries { MayWriteBack bound self.old }
         requires ready { IsReady D.seen (moment_of F.seen R.seen self.old frames.old redo.old) by }
-        requires alone { AreAlone (F.seen frames.old) }
+        requires alone { TellsAll (F.seen frames.old) }
         ensures keeps { Keeps D.seen (length (dirty self.old.state.history) + 1)
             (moment_of F.seen R.seen self.old frames.old redo.old)
             (moment_of F.seen R.seen self.new frames.new redo.new) }
@@ -277,7 +277,7 @@ impl<D: PageDisk> Desk<D> {
         requires places { self.old.state.config.first + length self.old.state.history
             + length (dirty self.old.state.history) + 1 < 2 ^ CLOCK_BITS }
         requires ready { IsReady D.seen (moment_of F.seen R.seen self.old frames.old redo.old) by }
-        requires alone { AreAlone (F.seen frames.old) }
+        requires alone { TellsAll (F.seen frames.old) }
         ensures keeps { Keeps D.seen (length (dirty self.old.state.history) + 1)
             (moment_of F.seen R.seen self.old frames.old redo.old)
             (moment_of F.seen R.seen self.new frames.new redo.new) }

@@ -7,13 +7,13 @@ ghost use Rattle.trail.specs.History.{home};
 ghost use Rattle.trail.specs.Trails.{mark};
 ghost use Rattle.frame_words.specs.Rows.{laid_row};
 ghost use Rattle.frame_words.specs.Seen.{KeepsRoom, row_at, with_row};
-ghost use Rattle.desk.specs.Answers.{IsAsked, MayTake, IsNext, IsCreateSpan, Creates};
+ghost use Rattle.desk.specs.Answers.{IsAsked, MayTake, IsNextFrame, IsCreateSpan, Creates};
 ghost use Rattle.desk.specs.Creating.{IsMade, create_err_of, blank_at};
 ghost use Rattle.instance_lists.specs.Ledger.{IsVacant};
 ghost use Rattle.desk.specs.Logged.{create_change};
 ghost use Rattle.desk.specs.Making.{shown};
-ghost use Rattle.desk.specs.Moments.{LogSeen, moment, moment_of, HasPlaces, IsUnderWay, IsReady, Keeps};
-ghost use Rattle.desk.specs.Steps.{Appends, next_entry};
+ghost use Rattle.desk.specs.Moments.{LogSeen, moment, moment_of, HasRoomFor, IsBetweenSteps, IsReady, Keeps};
+ghost use Rattle.desk.specs.Steps.{AppendsEntry, next_entry};
 ghost use Rattle.desk.specs.Tied.{AreTied};
 ghost use Rattle.redo_mark.specs.Logs.{Holds};
 
@@ -43,7 +43,7 @@ impl<D: PageDisk> Desk<D> {
         frames.lay(frame, image);
     }
 
-    /// Appends the entry of a blank page that lies in the next frame, and publishes it there at the entry's place.
+    /// AppendsEntry the entry of a blank page that lies in the next frame, and publishes it there at the entry's place.
     fn show_made<F: Frames>(
         &mut self,
         frames: &mut F,
@@ -53,14 +53,14 @@ impl<D: PageDisk> Desk<D> {
         now: u64,
         span: Span,
     ) -> u64
-        requires entries { HasPlaces 1 self.old }
+        requires entries { HasRoomFor 1 self.old }
         requires tied { AreTied D.seen (F.seen frames.old) self.old.state }
         requires asked { MayTake D.seen (F.seen frames.old) self.old.state by page }
-        requires next { IsNext self.old.state frame }
+        requires next { IsNextFrame self.old.state frame }
         requires span { IsCreateSpan self.old.state span }
         requires image { (row_at (F.seen frames.old) frame).image ≡ Some (Some (blank_at (page_bytes self.old.state.config.page) span.end)) }
         ensures place { result ≡ mark self.old.state.config.first self.old.state.history + 1 }
-        ensures appends { Appends self.old.state self.new.state by (Kind.Create page frame span.start span.end now) }
+        ensures appends { AppendsEntry self.old.state self.new.state by (Kind.Create page frame span.start span.end now) }
         ensures seen { F.seen frames.new ≡ shown (F.seen frames.old)
             (next_entry self.old.state by (Kind.Create page frame span.start span.end now)) frame page result }
         ensures room { self.old.room ≤ self.new.room + 1 }
@@ -92,10 +92,10 @@ impl<D: PageDisk> Desk<D> {
         now: u64,
         span: Span,
     ) -> Granted
-        requires entries { HasPlaces 1 self.old }
-        requires rest { IsUnderWay D.seen by self.old.state (F.seen frames.old) }
+        requires entries { HasRoomFor 1 self.old }
+        requires rest { IsBetweenSteps D.seen by self.old.state (F.seen frames.old) }
         requires asked { MayTake D.seen (F.seen frames.old) self.old.state by page }
-        requires next { IsNext self.old.state frame }
+        requires next { IsNextFrame self.old.state frame }
         requires span { IsCreateSpan self.old.state span }
         requires fix { 0 < F.room frames.old frame }
         ensures keeps { (l : LogSeen) → Holds l.seen (record_of (create_change page) span.start) span.start → span.end ≤ l.seen.end
@@ -130,7 +130,7 @@ impl<D: PageDisk> Desk<D> {
         page: PageId,
         now: u64,
     ) -> Result<Granted, CreateErr>
-        requires entries { HasPlaces 3 self.old }
+        requires entries { HasRoomFor 3 self.old }
         requires ready { IsReady D.seen (moment_of F.seen R.seen self.old frames.old redo.old) by }
         requires asked { MayTake D.seen (F.seen frames.old) self.old.state by page }
         requires fixes { (f : ℕ) → f < length (F.seen frames.old).rows → 0 < F.room frames.old f }
@@ -170,7 +170,7 @@ impl<D: PageDisk> Desk<D> {
         page: PageId,
         now: u64,
     ) -> Result<Granted, CreateErr>
-        requires entries { HasPlaces 3 self.old }
+        requires entries { HasRoomFor 3 self.old }
         requires ready { IsReady D.seen (moment_of F.seen R.seen self.old frames.old redo.old) by }
         requires asked { IsAsked (F.seen frames.old) self.old.state held page }
         requires fixes { held < MOST_FIXES → (f : ℕ) → f < length (F.seen frames.old).rows → 0 < F.room frames.old f }
@@ -206,7 +206,7 @@ impl<D: PageDisk> Desk<D> {
     /// (buf0buf's `buf_page_create`). Nothing is read from the disk. A resident page is refused. The caller holds so many fixes, which may be
     /// no more than 64.
     ///
-    /// Appends the entries `write`, `evict` and `create`, each where it happens; or the refusal, behind the entries of a victim that had
+    /// AppendsEntry the entries `write`, `evict` and `create`, each where it happens; or the refusal, behind the entries of a victim that had
     /// left. Memory is taken before anything changes; want of memory changes nothing.
     pub fn create_at<F: Frames, R: RedoDisk>(
         &mut self,

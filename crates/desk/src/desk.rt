@@ -15,12 +15,12 @@ ghost use Rattle.frame_words.specs.Plain.{seen_of};
 ghost use Rattle.frame_words.specs.Rows.{latched_row, lifted_row};
 ghost use Rattle.frame_words.specs.Seen.{FramesSeen, row_at, with_row, KeepsRoom};
 ghost use Rattle.desk.specs.Base.{Opened};
-ghost use Rattle.desk.specs.Behind.{IsBehind, IsOpening};
+ghost use Rattle.desk.specs.Behind.{IsBehind, IsNewlyOpened};
 ghost use Rattle.instance_lists.specs.Ledger.{IsOneChunk, MayCome};
 ghost use Rattle.desk.specs.Ledger.{ledger_of};
 ghost use Rattle.desk.specs.Loads.{AreBlank};
 ghost use Rattle.desk.specs.State.{State};
-ghost use Rattle.desk.specs.Steps.{IsAppended, IsFresh, next_entry};
+ghost use Rattle.desk.specs.Steps.{IsAppended, IsNewDesk, next_entry};
 ghost use Rattle.desk.specs.Tied.{AreTied};
 
 use crate::calls::Caller;
@@ -44,10 +44,10 @@ pub struct Desk<D: PageDisk> {
 
 impl<D: PageDisk> Model for Desk<D> {
     ghost use Rattle.std.specs.Prelude.{vec_len, ◌≡◌};
-    ghost use Rattle.desk.specs.State.{Kept, AreInside};
+    ghost use Rattle.desk.specs.State.{DeskWithRoom, AreInside};
     ghost use Rattle.page_ids.specs.Size.{page_bytes};
 
-    ghost Value = { Kept D };
+    ghost Value = { DeskWithRoom D };
 
     ghost view = { λ s. record {
       state = record { config = s.lists.config; instance = s.instance; history = s.lists.history; disk = s.disk };
@@ -69,8 +69,8 @@ impl<D: PageDisk> Desk<D> {
     ) -> Result<Desk<D>, (OutOfMemory, D)>
         requires start { IsOneChunk config.now }
         requires size { (D.seen disk).size ≡ page_bytes config.now.page }
-        ensures fresh { IfOk result (λ desk. IsFresh desk.state config.now instance disk) }
-        ensures behind { IfOk result (λ desk. (o : Opened) (frames : FramesSeen) → IsOpening o (D.seen disk)
+        ensures fresh { IfOk result (λ desk. IsNewDesk desk.state config.now instance disk) }
+        ensures behind { IfOk result (λ desk. (o : Opened) (frames : FramesSeen) → IsNewlyOpened o (D.seen disk)
             → IsBehind D.seen o desk.state frames) }
         ensures back { IfErr result (λ e. e.1 ≡ disk) }
     {

@@ -7,16 +7,16 @@ ghost use Rattle.trail.specs.Trails.{mark};
 ghost use Rattle.trail.specs.History.{home};
 ghost use Rattle.trail.specs.Dirt.{is_dirty};
 ghost use Rattle.frame_words.specs.Seen.{KeepsRoom};
-ghost use Rattle.desk.specs.Answers.{IsAsked, IsRefusable, Refuses, MayTake, IsNext, Loads, Fixes};
+ghost use Rattle.desk.specs.Answers.{IsAsked, IsRefusable, Refuses, MayTake, IsNextFrame, Loads, Fixes};
 ghost use Rattle.desk.specs.Base.{Opened};
 ghost use Rattle.desk.specs.Behind.{IsBehind};
 ghost use Rattle.desk.specs.Fixing.{fix_err_of};
 ghost use Rattle.desk.specs.Loads.{MayFix, IsRead, IsInImage, IsOneMore};
 ghost use Rattle.desk.specs.Logged.{IsLoggedCause};
 ghost use Rattle.desk.specs.Making.{shown};
-ghost use Rattle.desk.specs.Moments.{LogSeen, moment, moment_of, HasPlaces, EmptiesHand, IsAtRest, IsUnderWay, IsReady, Keeps};
+ghost use Rattle.desk.specs.Moments.{LogSeen, moment, moment_of, HasRoomFor, EmptiesHand, IsAtRest, IsBetweenSteps, IsReady, Keeps};
 ghost use Rattle.desk.specs.Reads.{IsReadRefusal};
-ghost use Rattle.desk.specs.Steps.{Appends, OnlyReads, next_entry, IsHit, IsLoadRefusal};
+ghost use Rattle.desk.specs.Steps.{AppendsEntry, OnlyReads, next_entry, IsHit, IsLoadRefusal};
 ghost use Rattle.desk.specs.Tied.{AreTied};
 
 use crate::calls::{Caller, FixErr, FrameErr, Granted};
@@ -62,7 +62,7 @@ impl<D: PageDisk> Desk<D> {
         frame: u32,
     ) -> Result<(), ReadErr>
         requires inside { IsInside (D.seen self.old.state.disk).spaces page }
-        requires next { IsNext self.old.state frame }
+        requires next { IsNextFrame self.old.state frame }
         requires tied { AreTied D.seen (F.seen frames.old) self.old.state }
         ensures ok { OnOk result (IsRead ((D.seen self.old.state.disk).told page) (F.seen frames.old) (F.seen frames.new) page frame) }
         ensures err { OnErr result (F.seen frames.new ≡ F.seen frames.old) }
@@ -83,12 +83,12 @@ impl<D: PageDisk> Desk<D> {
 
     /// Makes the next frame the home of a page that was read into it.
     fn take_in<F: Frames>(&mut self, frames: &mut F, by: Caller, page: PageId, frame: u32)
-        requires entries { HasPlaces 1 self.old }
+        requires entries { HasRoomFor 1 self.old }
         requires tied { AreTied D.seen (F.seen frames.old) self.old.state }
         requires asked { MayTake D.seen (F.seen frames.old) self.old.state by page }
-        requires next { IsNext self.old.state frame }
+        requires next { IsNextFrame self.old.state frame }
         requires image { (content : Content) × IsInImage ((D.seen self.old.state.disk).told page) (F.seen frames.old) page frame content }
-        ensures appends { Appends self.old.state self.new.state by (Kind.Load page frame) }
+        ensures appends { AppendsEntry self.old.state self.new.state by (Kind.Load page frame) }
         ensures seen { F.seen frames.new ≡ shown (F.seen frames.old) (next_entry self.old.state by (Kind.Load page frame)) frame page
             (mark self.old.state.config.first self.old.state.history + 1) }
         ensures room { self.old.room ≤ self.new.room + 1 }
@@ -113,10 +113,10 @@ impl<D: PageDisk> Desk<D> {
         frame: u32,
         now: u64,
     ) -> Result<(), FixErr>
-        requires entries { HasPlaces 1 self.old }
-        requires rest { IsUnderWay D.seen by self.old.state (F.seen frames.old) }
+        requires entries { HasRoomFor 1 self.old }
+        requires rest { IsBetweenSteps D.seen by self.old.state (F.seen frames.old) }
         requires asked { MayTake D.seen (F.seen frames.old) self.old.state by page }
-        requires next { IsNext self.old.state frame }
+        requires next { IsNextFrame self.old.state frame }
         ensures keeps { (l : LogSeen) → Keeps D.seen 1 (moment self.old.state (F.seen frames.old) l) (moment self.new.state (F.seen frames.new) l) }
         ensures loaded { OnOk result (Loads D.seen self.old.state self.new.state (F.seen frames.old) (F.seen frames.new) by page frame) }
         ensures refused { IfErr result (λ e. IsLoadRefusal D.seen self.old.state self.new.state by page now e) }
@@ -143,7 +143,7 @@ impl<D: PageDisk> Desk<D> {
         }
     }
 
-    /// Appends the refusal of a call that takes a frame for a page.
+    /// AppendsEntry the refusal of a call that takes a frame for a page.
     pub(crate) fn refuse<F: Frames>(
         &mut self,
         frames: &mut F,
@@ -152,8 +152,8 @@ impl<D: PageDisk> Desk<D> {
         call: Call,
         cause: Cause,
     )
-        requires entries { HasPlaces 1 self.old }
-        requires rest { IsUnderWay D.seen by self.old.state (F.seen frames.old) }
+        requires entries { HasRoomFor 1 self.old }
+        requires rest { IsBetweenSteps D.seen by self.old.state (F.seen frames.old) }
         requires hands { EmptiesHand self.old.state call cause }
         requires asked { IsRefusable (F.seen frames.old) self.old.state by page call cause }
         ensures keeps { (l : LogSeen) → IsLoggedCause l.seen cause
@@ -172,7 +172,7 @@ impl<D: PageDisk> Desk<D> {
         frame: u32,
         now: u64,
     ) -> Granted
-        requires entries { HasPlaces 1 self.old }
+        requires entries { HasRoomFor 1 self.old }
         requires rest { IsAtRest D.seen self.old.state (F.seen frames.old) }
         requires caller { MayFix (F.seen frames.old) self.old.state by page }
         requires resident { home self.old.state.history page ≡ Some frame }
@@ -210,7 +210,7 @@ impl<D: PageDisk> Desk<D> {
         page: PageId,
         now: u64,
     ) -> Result<Granted, FixErr>
-        requires entries { HasPlaces 4 self.old }
+        requires entries { HasRoomFor 4 self.old }
         requires ready { IsReady D.seen (moment_of F.seen R.seen self.old frames.old redo.old) by }
         requires asked { MayTake D.seen (F.seen frames.old) self.old.state by page }
         requires fixes { (f : ℕ) → f < length (F.seen frames.old).rows → 0 < F.room frames.old f }
@@ -242,7 +242,7 @@ impl<D: PageDisk> Desk<D> {
         page: PageId,
         now: u64,
     ) -> Result<Granted, FixErr>
-        requires entries { HasPlaces 4 self.old }
+        requires entries { HasRoomFor 4 self.old }
         requires ready { IsReady D.seen (moment_of F.seen R.seen self.old frames.old redo.old) by }
         requires asked { IsAsked (F.seen frames.old) self.old.state held page }
         requires fixes { held < MOST_FIXES → (f : ℕ) → f < length (F.seen frames.old).rows → 0 < F.room frames.old f }
@@ -273,7 +273,7 @@ impl<D: PageDisk> Desk<D> {
     /// Fixes a page: a resident one where it is, any other one after reading it into a free frame or that of a victim, which is written first
     /// where it is dirty (buf0buf's `buf_page_get_gen`). The caller holds so many fixes, which may be no more than 64.
     ///
-    /// Appends the entries `write`, `evict`, `load` and `fix`, each where it happens; or the refusal, behind the entries of a victim that had
+    /// AppendsEntry the entries `write`, `evict`, `load` and `fix`, each where it happens; or the refusal, behind the entries of a victim that had
     /// left. Memory is taken before anything changes; want of memory changes nothing.
     pub fn fix_at<F: Frames, R: RedoDisk>(
         &mut self,

@@ -1,7 +1,7 @@
 //! Writing a page behind its log.
 ghost use Rattle.std.specs.Prelude.{ℕ, ◌≡◌, ◌<◌, ◌≤◌, OnOk, OnErr, IfOk, IfErr, IsTrue, length, vec_len};
 ghost use Rattle.page_disk.specs.Disks.{IsInside, IsSameDisk, IsOtherwiseSame, Fades};
-ghost use Rattle.desk.specs.Reads.{IsFault, RoseWithin};
+ghost use Rattle.desk.specs.Reads.{IsDiskFault, RoseWithin};
 ghost use Rattle.desk.specs.Changes.{IsImageTold, IsWriteFault, IsForced, covered_to};
 ghost use Rattle.desk.specs.Moments.{log_seen};
 ghost use Rattle.desk.specs.Writing.{MayWrite, Covers, Writes};
@@ -56,7 +56,7 @@ fn write_image<D: PageDisk>(
     ensures written { OnOk result (IsImageTold page image.now (D.seen disk.old) (D.seen disk.new)) }
     ensures failed { OnErr result (Fades ((D.seen disk.old).told page) ((D.seen disk.new).told page)) }
     ensures others { IsOtherwiseSame page (D.seen disk.old) (D.seen disk.new) }
-    ensures fault { IfErr result (λ f. IsFault (D.seen disk.old).faults (D.seen disk.new).faults f.before f.after) }
+    ensures fault { IfErr result (λ f. IsDiskFault (D.seen disk.old).faults (D.seen disk.new).faults f.before f.after) }
     ensures buffer { vec_len buffer.new ≡ vec_len buffer.old }
 {
     let before = disk.faults();

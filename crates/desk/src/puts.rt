@@ -12,8 +12,8 @@ ghost use Rattle.desk.specs.Base.{Opened};
 ghost use Rattle.desk.specs.Behind.{IsBehind};
 ghost use Rattle.desk.specs.Changes.{IsPutBy};
 ghost use Rattle.desk.specs.Logged.{put_change};
-ghost use Rattle.desk.specs.Moments.{LogSeen, moment, moment_of, HasPlaces, IsAtRest, IsReady, Keeps};
-ghost use Rattle.desk.specs.Tied.{AreAlone, HasTurn};
+ghost use Rattle.desk.specs.Moments.{LogSeen, moment, moment_of, HasRoomFor, IsAtRest, IsReady, Keeps};
+ghost use Rattle.desk.specs.Tied.{TellsAll, HasTurn};
 ghost use Rattle.redo_mark.specs.Logs.{Holds};
 ghost use Rattle.redo_mark.specs.Records.{record_of};
 
@@ -57,9 +57,9 @@ impl<D: PageDisk> Desk<D> {
         bytes: Bytes,
         span: Span,
     ) -> PutDone
-        requires entries { HasPlaces 1 self.old }
+        requires entries { HasRoomFor 1 self.old }
         requires rest { IsAtRest D.seen self.old.state (F.seen frames.old) }
-        requires alone { AreAlone (F.seen frames.old) }
+        requires alone { TellsAll (F.seen frames.old) }
         requires turn { HasTurn (F.seen frames.old) by }
         requires asked { IsPutAsked (F.seen frames.old) self.old.state page at (length bytes) }
         requires span { (log_end self.old.state.history ≤ span.start) × (span.end ≡ span.start + RECORD_BYTES + length bytes) }
@@ -107,7 +107,7 @@ impl<D: PageDisk> Desk<D> {
     ) -> Result<PutDone, PutErr>
         requires places { self.old.state.config.first + length self.old.state.history + 1 < 2 ^ CLOCK_BITS }
         requires ready { IsReady D.seen (moment_of F.seen R.seen self.old frames.old redo.old) by }
-        requires alone { AreAlone (F.seen frames.old) }
+        requires alone { TellsAll (F.seen frames.old) }
         requires asked { IsPutAsked (F.seen frames.old) self.old.state page at (length bytes.now) }
         ensures keeps { Keeps D.seen 1
             (moment_of F.seen R.seen self.old frames.old redo.old)

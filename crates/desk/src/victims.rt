@@ -14,13 +14,13 @@ ghost use Rattle.frame_words.specs.Appends.{appended};
 ghost use Rattle.frame_words.specs.Conditions.{IsUntouched, IsSteady, AreFound};
 ghost use Rattle.frame_words.specs.Rows.{published_row};
 ghost use Rattle.frame_words.specs.Seen.{FramesSeen, row_at, Finds, KeepsRoom};
-ghost use Rattle.desk.specs.Answers.{IsRefusable, MayTake, IsNext, HasFrameFor, IsOccupied, Unhad};
+ghost use Rattle.desk.specs.Answers.{IsRefusable, MayTake, IsNextFrame, HasFrameFor, IsOccupied, Unhad};
 ghost use Rattle.desk.specs.Base.{Opened};
 ghost use Rattle.desk.specs.Behind.{IsBehind};
 ghost use Rattle.instance_lists.specs.Walk.{test_of, part_of};
 ghost use Rattle.desk.specs.Claimed.{HasLooked, IsTaken, ArePassedBy, StopsAt, AreTiedBut, KeepsLog, WroteClaimed, UnwroteClaimed, CleanedClaimed, UncleanedClaimed, LeavesClaimed, cause_of, refusal_of};
-ghost use Rattle.desk.specs.Moments.{log_seen, moment_of, HasPlaces, IsReady, Follows, Keeps, Proceeds, LogSeen, moment, IsAtRest};
-ghost use Rattle.desk.specs.Steps.{Appends, next_entry};
+ghost use Rattle.desk.specs.Moments.{log_seen, moment_of, HasRoomFor, IsReady, Follows, Keeps, Proceeds, LogSeen, moment, IsAtRest};
+ghost use Rattle.desk.specs.Steps.{AppendsEntry, next_entry};
 ghost use Rattle.desk.specs.Tied.{AreTied, HasTurn};
 ghost use Rattle.desk.specs.Victims.{IsAhead, AsksFor};
 ghost use Rattle.desk.specs.Writing.{Covers};
@@ -181,7 +181,7 @@ impl<D: PageDisk> Desk<D> {
         by: Caller,
         victim: Victim,
     ) -> Result<(), WriteErr>
-        requires entries { HasPlaces 1 self.old }
+        requires entries { HasRoomFor 1 self.old }
         requires but { AreTiedBut D.seen (F.seen frames.old) self.old.state victim.page victim.frame }
         requires turn { HasTurn (F.seen frames.old) by }
         requires logged { (d : Dirty) → dirt_of (dirty self.old.state.history) victim.page ≡ Some d → d.newest ≤ redo.old.seen.end }
@@ -208,16 +208,16 @@ impl<D: PageDisk> Desk<D> {
         }
     }
 
-    /// Appends that a page, which is clean, has left its frame. The frame stays claimed.
+    /// AppendsEntry that a page, which is clean, has left its frame. The frame stays claimed.
     fn let_go<F: Frames>(&mut self, frames: &mut F, by: Caller, victim: Victim, passed: Words)
-        requires entries { HasPlaces 1 self.old }
+        requires entries { HasRoomFor 1 self.old }
         requires but { AreTiedBut D.seen (F.seen frames.old) self.old.state victim.page victim.frame }
         requires clean { is_dirty self.old.state.history victim.page ≡ false }
         requires turn { HasTurn (F.seen frames.old) by }
         requires found { IfSome (F.seen frames.old).found (λ now. AreFound now passed) }
-        ensures appends { Appends self.old.state self.new.state by (Kind.Evict victim.page victim.frame passed) }
+        ensures appends { AppendsEntry self.old.state self.new.state by (Kind.Evict victim.page victim.frame passed) }
         ensures seen { F.seen frames.new ≡ appended (F.seen frames.old) (next_entry self.old.state by (Kind.Evict victim.page victim.frame passed)) }
-        ensures next { IsNext self.new.state victim.frame }
+        ensures next { IsNextFrame self.new.state victim.frame }
         ensures room { self.old.room ≤ self.new.room + 1 }
         ensures tied { AreTied D.seen (F.seen frames.new) self.new.state }
         ensures fixes { KeepsRoom (F.room frames.old) (F.room frames.new) }
@@ -246,12 +246,12 @@ impl<D: PageDisk> Desk<D> {
         victim: Victim,
         error: WriteErr,
     ) -> FrameErr
-        requires entries { HasPlaces 1 self.old }
+        requires entries { HasRoomFor 1 self.old }
         requires but { AreTiedBut D.seen (F.seen frames.old) self.old.state victim.page victim.frame }
         requires clock { (victim.clock ≡ (row_at (F.seen frames.old) victim.frame).clock) × (victim.clock < 2 ^ CLOCK_BITS) }
         requires asked { IsRefusable (F.seen frames.old) self.old.state by page call (cause_of error) }
         ensures refused { result ≡ refusal_of error }
-        ensures appends { Appends self.old.state self.new.state by (Kind.Refused call (cause_of error)) }
+        ensures appends { AppendsEntry self.old.state self.new.state by (Kind.Refused call (cause_of error)) }
         ensures rows { (F.seen frames.new).rows ≡ slice_set (F.seen frames.old).rows victim.frame
             (published_row (row_at (F.seen frames.old) victim.frame) victim.page victim.clock) }
         ensures view { Follows (next_entry self.old.state by (Kind.Refused call (cause_of error)) ∷ []) (F.seen frames.old) (F.seen frames.new) }
@@ -266,7 +266,7 @@ impl<D: PageDisk> Desk<D> {
         refusal
     }
 
-    /// Appends the refusal of a call for which every frame was found with a fix.
+    /// AppendsEntry the refusal of a call for which every frame was found with a fix.
     fn refuse_full<F: Frames>(
         &mut self,
         frames: &mut F,
@@ -275,7 +275,7 @@ impl<D: PageDisk> Desk<D> {
         call: Call,
         passed: Vec<(u32, Word)>,
     ) -> FrameErr
-        requires entries { HasPlaces 1 self.old }
+        requires entries { HasRoomFor 1 self.old }
         requires rest { IsAtRest D.seen self.old.state (F.seen frames.old) }
         requires asked { MayTake D.seen (F.seen frames.old) self.old.state by page }
         requires for_page { AsksFor page call }
@@ -307,7 +307,7 @@ impl<D: PageDisk> Desk<D> {
         page: PageId,
         call: Call,
     ) -> Result<u32, FrameErr>
-        requires entries { HasPlaces 2 self.old }
+        requires entries { HasRoomFor 2 self.old }
         requires ready { IsReady D.seen (moment_of F.seen R.seen self.old frames.old redo.old) by }
         requires asked { MayTake D.seen (F.seen frames.old) self.old.state by page }
         requires for_page { AsksFor page call }
@@ -338,7 +338,7 @@ impl<D: PageDisk> Desk<D> {
 
     /// A frame for a page that is not resident: the next free one, or that of a victim, which is written first where it is dirty.
     ///
-    /// Appends the entries `write` and `evict` of the victim, or the refusal of the call, which is a fix or a create. Memory is taken before
+    /// AppendsEntry the entries `write` and `evict` of the victim, or the refusal of the call, which is a fix or a create. Memory is taken before
     /// anything changes; want of memory changes nothing. A page that could not be written stays where it is, and is as dirty as it was.
     pub(crate) fn have_frame<F: Frames, R: RedoDisk>(
         &mut self,
@@ -348,7 +348,7 @@ impl<D: PageDisk> Desk<D> {
         page: PageId,
         call: Call,
     ) -> Result<u32, FrameErr>
-        requires entries { HasPlaces 2 self.old }
+        requires entries { HasRoomFor 2 self.old }
         requires ready { IsReady D.seen (moment_of F.seen R.seen self.old frames.old redo.old) by }
         requires asked { MayTake D.seen (F.seen frames.old) self.old.state by page }
         requires for_page { AsksFor page call }

@@ -4,7 +4,7 @@ ghost use Rattle.frame_words.specs.Plain.{seen_of, room_of};
 ghost use Rattle.instance_lists.specs.Ledger.{IsOneChunk};
 ghost use Rattle.desk.specs.Moments.{IsEmptyHanded};
 ghost use Rattle.desk.specs.Steps.{row_in};
-ghost use Rattle.desk.specs.Tied.{AreAlone};
+ghost use Rattle.desk.specs.Tied.{TellsAll};
 ghost use Rattle.desk.specs.Victims.{AreSettled};
 
 use desk::{Caller, Cleaned, Desk, Granted, PutDone, dirty_pages_are_few};
@@ -110,7 +110,7 @@ fn has_room(frames: &PlainFrames, frame: u32) -> bool
 /// Whether no frame has more than 100 fixes.
 fn have_room(frames: &PlainFrames) -> bool
     ensures room { IsTrue result → (f : ℕ) → f < length frames.now.rows → 0 < room_of frames.now f }
-    ensures alone { IsTrue result → AreAlone (seen_of frames.now) }
+    ensures alone { IsTrue result → TellsAll (seen_of frames.now) }
     ensures settled { IsTrue result → AreSettled frames.now.rows }
 {
     for frame in 0..frames.frames() {

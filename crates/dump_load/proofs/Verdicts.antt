@@ -6,7 +6,7 @@ use Rattle.page_ids.specs.declared.ids.PageId.{PageId}
 use Rattle.dump_load.specs.declared.text.DumpErr.{DumpErr}
 use Rattle.dump_load.specs.declared.text.DumpErr.TheVariants.{BadLine, TooMany, OutOfMemory}
 use Rattle.page_ids.specs.Typed.{ArePages}
-use Rattle.dump_load.specs.Text.{id_line, dump_text, ended, IsNoId, IsDump, IsBadLine, IsTooMany, IsRefused}
+use Rattle.dump_load.specs.Text.{id_line, dump_text, ended, IsNoId, IsDump, IsBadIdLine, IsTooMany, IsRefusedDump}
 use Rattle.dump_load.proofs.Lines.{IsWhole, line_whole, one_id, cut_one}
 
 -- the shorter of two beginnings begins the longer one
@@ -55,7 +55,7 @@ one_dump bytes ids more d k = elim (cases_lt (length more) (length ids)) [
   | inr ge ↦ sym (dumps_same bytes ids more d k (omega (arith, ge)))
 ]
 
-dump_not_bad : (bytes : List ℕ) (ids : List PageId) (n : ℕ) → IsDump bytes ids → IsBadLine bytes n → ⊥
+dump_not_bad : (bytes : List ℕ) (ids : List PageId) (n : ℕ) → IsDump bytes ids → IsBadIdLine bytes n → ⊥
 dump_not_bad bytes ids n d b = elim (cases_lt (length b.before) (length ids)) [
   | inl l ↦
       let t = along b.before ids (b.line ++ 10 ∷ b.behind) [] b.typed d.typed (sym b.text ∙ whole_text bytes ids d) (omega (arith, l)) in
@@ -75,30 +75,30 @@ dump_not_many bytes ids n d m =
           m.more (none_later t.0 m.behind t.2).1
     ]
 
-bad_same : (bytes : List ℕ) (n k : ℕ) (b : IsBadLine bytes n) (c : IsBadLine bytes k) → length b.before ≤ length c.before → k ≡ n
+bad_same : (bytes : List ℕ) (n k : ℕ) (b : IsBadIdLine bytes n) (c : IsBadIdLine bytes k) → length b.before ≤ length c.before → k ≡ n
 bad_same bytes n k b c le =
     let t = along b.before c.before (b.line ++ 10 ∷ b.behind) (c.line ++ 10 ∷ c.behind) b.typed c.typed (sym b.text ∙ c.text) le in
     let none = bad_first b.line b.behind t.0 (c.line ++ 10 ∷ c.behind) b.whole b.bad t.3 t.2 in
     omega (arith, same_length b.before c.before t.0 t.1 none, b.place, c.place)
 
-one_bad : (bytes : List ℕ) (n k : ℕ) → IsBadLine bytes n → IsBadLine bytes k → n ≡ k
+one_bad : (bytes : List ℕ) (n k : ℕ) → IsBadIdLine bytes n → IsBadIdLine bytes k → n ≡ k
 one_bad bytes n k b c = elim (cases_lt (length c.before) (length b.before)) [
   | inl l ↦ bad_same bytes k n c b (omega (arith, l))
   | inr ge ↦ sym (bad_same bytes n k b c (omega (arith, ge)))
 ]
 
-bad_not_many : (bytes : List ℕ) (n k : ℕ) → IsBadLine bytes n → IsTooMany bytes k → ⊥
+bad_not_many : (bytes : List ℕ) (n k : ℕ) → IsBadIdLine bytes n → IsTooMany bytes k → ⊥
 bad_not_many bytes n k b m =
     let t = along b.before m.before (b.line ++ 10 ∷ b.behind) m.behind b.typed m.typed (sym b.text ∙ m.text) (omega (arith, b.few, m.full)) in
     let none = bad_first b.line b.behind t.0 m.behind b.whole b.bad t.3 t.2 in
     absurd (omega (arith, same_length b.before m.before t.0 t.1 none, b.few, m.full))
 
-pub dump_not_refused : (bytes : List ℕ) (ids : List PageId) (e : DumpErr) → IsDump bytes ids → IsRefused bytes e → ⊥
+pub dump_not_refused : (bytes : List ℕ) (ids : List PageId) (e : DumpErr) → IsDump bytes ids → IsRefusedDump bytes e → ⊥
 dump_not_refused bytes ids (BadLine n) d r = dump_not_bad bytes ids n d r
 dump_not_refused bytes ids (TooMany n) d r = dump_not_many bytes ids n d r
 dump_not_refused bytes ids OutOfMemory d r = r
 
-pub one_refusal : (bytes : List ℕ) (e f : DumpErr) → IsRefused bytes e → IsRefused bytes f → e ≡ f
+pub one_refusal : (bytes : List ℕ) (e f : DumpErr) → IsRefusedDump bytes e → IsRefusedDump bytes f → e ≡ f
 one_refusal bytes (BadLine n) (BadLine k) r s = ap BadLine (one_bad bytes n k r s)
 one_refusal bytes (BadLine n) (TooMany k) r s = absurd (bad_not_many bytes n k r s)
 one_refusal bytes (BadLine n) OutOfMemory r s = absurd s

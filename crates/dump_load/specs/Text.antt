@@ -34,7 +34,7 @@ abbrev pub IsNoId : List ℕ → Type 0
 IsNoId line = (p : PageId) → FitsId p → line ≢ id_line p
 
 -- this is the first bad line, from 1: those before it are ids, and it is none
-pub record IsBadLine (bytes : List ℕ) (number : ℕ) : Type 0 where
+pub record IsBadIdLine (bytes : List ℕ) (number : ℕ) : Type 0 where
   pub before : List PageId
   pub line : List ℕ
   pub behind : List ℕ
@@ -56,7 +56,7 @@ pub record IsTooMany (bytes : List ℕ) (number : ℕ) : Type 0 where
   pub full : length before ≡ MOST_IDS
 
 -- the bytes are refused so
-abbrev pub IsRefused : List ℕ → DumpErr → Type 0
-IsRefused bytes (BadLine line) = IsBadLine bytes line
-IsRefused bytes (TooMany line) = IsTooMany bytes line
-IsRefused bytes OutOfMemory = ⊥
+abbrev pub IsRefusedDump : List ℕ → DumpErr → Type 0
+IsRefusedDump bytes (BadLine line) = IsBadIdLine bytes line
+IsRefusedDump bytes (TooMany line) = IsTooMany bytes line
+IsRefusedDump bytes OutOfMemory = ⊥

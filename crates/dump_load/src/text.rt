@@ -4,7 +4,7 @@ ghost use Rattle.std.specs.List.{AllByRecursion};
 ghost use Rattle.page_ids.specs.declared.ids.PageId.{PageId};
 ghost use Rattle.dump_load.specs.declared.text.DumpErr.{DumpErr};
 ghost use Rattle.page_ids.specs.Typed.{ArePages};
-ghost use Rattle.dump_load.specs.Text.{id_line, dump_text, ended, IsDump, IsRefused};
+ghost use Rattle.dump_load.specs.Text.{id_line, dump_text, ended, IsDump, IsRefusedDump};
 ghost use Rattle.dump_load.specs.Reading.{id_of};
 
 use page_ids::numerals::{cut, number_u32};
@@ -89,7 +89,7 @@ fn next_line(text: &[u8]) -> (&[u8], &[u8])
 /// Reads all lines. As bytes have one verdict only, what `read_dump` says follows from this.
 fn read_lines(alloc: Global, bytes: &[u8]) -> Result<Vec<PageId>, DumpErr>
     ensures { MatchResult result (λ ids. IsDump bytes.now ids.items)
-        (λ e. (e ≡ DumpErr.OutOfMemory) ⊎ IsRefused bytes.now e) }
+        (λ e. (e ≡ DumpErr.OutOfMemory) ⊎ IsRefusedDump bytes.now e) }
 {
     let mut ids = Vec::new(alloc);
     let mut rest = bytes;
@@ -118,8 +118,8 @@ pub fn read_dump(alloc: Global, bytes: &[u8]) -> Result<Vec<PageId>, DumpErr>
     ensures read { IfOk result (λ ids. IsDump bytes.now ids.items) }
     ensures only { (ids : List PageId) → IsDump bytes.now ids
         → MatchResult result (λ found. found.items ≡ ids) (λ e. e ≡ DumpErr.OutOfMemory) }
-    ensures refused { IfErr result (λ e. (e ≡ DumpErr.OutOfMemory) ⊎ IsRefused bytes.now e) }
-    ensures refused_only { (why : DumpErr) → IsRefused bytes.now why
+    ensures refused { IfErr result (λ e. (e ≡ DumpErr.OutOfMemory) ⊎ IsRefusedDump bytes.now e) }
+    ensures refused_only { (why : DumpErr) → IsRefusedDump bytes.now why
         → MatchResult result (λ _. ⊥) (λ e. (e ≡ why) ⊎ (e ≡ DumpErr.OutOfMemory)) }
 {
     read_lines(alloc, bytes)

@@ -11,7 +11,7 @@ use Rattle.trail.specs.History.{home, change, value}
 use Rattle.trail.specs.Trails.{mark}
 use Rattle.trail.specs.declared.event.Entry.{Entry}
 use Rattle.frame_words.specs.Rows.{Uncovers}
-use Rattle.frame_words.specs.Seen.{FramesSeen, History, Turn, row_at, Finds, OnValue}
+use Rattle.frame_words.specs.Seen.{FramesSeen, History, Turn, row_at, Finds, OnToldValue}
 use Rattle.trail.specs.Words.{words_told}
 use Rattle.frame_words.specs.Appends.{AreReady, FitsHomes, FitsOpen, IsNoHome, pages_named}
 
@@ -86,7 +86,7 @@ pub record MayPublish (s : FramesSeen) (f : ℕ) (p : PageId) (clock : ℕ) : Ty
   pub laid : IsSome (row_at s f).image
   pub early : clock < 2 ^ CLOCK_BITS
   pub home_is : IfSome s.history (λ h. (home h.entries p ≡ Some f) × (clock ≡ change h.entries f))
-  pub value_is : OnValue s p (λ v. (row_at s f).image ≡ Some v)
+  pub value_is : OnToldValue s p (λ v. (row_at s f).image ≡ Some v)
 
 -- this holder has the latch of the frame
 pub record IsLatched (s : FramesSeen) (f : ℕ) : Type 0 where
@@ -109,4 +109,4 @@ pub record MayLay (s : FramesSeen) (f : ℕ) (content : Content) : Type 0 where
   pub reached : IsVisited s f
   pub empty : (row_at s f).image ≡ None
   pub sized : IfSome s.history (λ h. length content.bytes ≡ page_bytes h.config.page)
-  pub valued : (row_at s f).resident ≡ true → OnValue s (row_at s f).page (λ v. v ≡ Some content)
+  pub valued : (row_at s f).resident ≡ true → OnToldValue s (row_at s f).page (λ v. v ≡ Some content)

@@ -33,11 +33,11 @@ abbrev pub held_of : Row → ℕ
 held_of r = option_map_or (λ held. held) r.held 0
 
 -- so many fixes that are no visits are told, and with the visits they fit a word
-abbrev pub Fits : Option ℕ → ℕ → Type 0
-Fits held visits = IsSomeAnd held (λ n. n + visits < 2 ^ FIX_BITS)
+abbrev pub FitsInWord : Option ℕ → ℕ → Type 0
+FitsInWord held visits = IsSomeAnd held (λ n. n + visits < 2 ^ FIX_BITS)
 
 abbrev pub FitPlain : List Row → Option ℕ → Type 0
-FitPlain rows visit = (f : ℕ) → f < length rows → Fits (slice_index_or rows f new_row).held (visits_of visit f)
+FitPlain rows visit = (f : ℕ) → f < length rows → FitsInWord (slice_index_or rows f new_row).held (visits_of visit f)
 
 -- for how many more fixes there is room in the word of a frame
 abbrev pub room_of : Plain → ℕ → ℕ

@@ -69,8 +69,8 @@ abbrev pub left : FramesSeen → ℕ → Word → FramesSeen
 left s f w = record (noted s f w) { visit = None }
 
 -- the value of a page, where the history and values are told
-abbrev pub OnValue : FramesSeen → PageId → (Option Content → Type 0) → Type 0
-OnValue s p P = IfSome s.history (λ h. IfSome s.base (λ base. P (value (page_bytes h.config.page) base h.entries p)))
+abbrev pub OnToldValue : FramesSeen → PageId → (Option Content → Type 0) → Type 0
+OnToldValue s p P = IfSome s.history (λ h. IfSome s.base (λ base. P (value (page_bytes h.config.page) base h.entries p)))
 
 -- in each frame there is room for as many fixes as before, or more
 abbrev pub KeepsRoom : (ℕ → ℕ) → (ℕ → ℕ) → Type 0

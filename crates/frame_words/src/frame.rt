@@ -2,7 +2,7 @@
 ghost use Rattle.std.specs.Prelude.{◌≡◌, ◌<◌, ◌+◌, ◌^◌, true, Some, None, IsSome, MatchOption};
 ghost use Rattle.page_ids.specs.declared.limits.TheConstants.{CLOCK_BITS};
 ghost use Rattle.frame_words.specs.Rows.{new_row, claimed_row, published_row, latched_row, unlatched_row, stamped_row, lifted_row, laid_row, held_row, IsFound};
-ghost use Rattle.frame_words.specs.Plain.{Fits, held_of, is_told, unheld_row};
+ghost use Rattle.frame_words.specs.Plain.{FitsInWord, held_of, is_told, unheld_row};
 
 use page_ids::{Image, PageId, Word};
 use std::marker::Model;
@@ -48,7 +48,7 @@ impl Frame {
 
     /// The word with so many visits.
     pub(crate) fn word(&self, visits: u32) -> Word
-        requires { Fits self.now.held visits }
+        requires { FitsInWord self.now.held visits }
         ensures found { IsFound self.now visits result }
     {
         Word::of(self.held + visits, self.latched, self.resident, self.clock)
@@ -115,7 +115,7 @@ impl Frame {
 
     /// One fix more that is no visit.
     pub(crate) fn hold(&mut self)
-        requires { Fits self.old.held 1 }
+        requires { FitsInWord self.old.held 1 }
         ensures { self.new ≡ held_row self.old }
     {
         self.held += 1;

@@ -1,7 +1,7 @@
 //! The log file as the redo log's device.
 ghost use Rattle.std.specs.Prelude.{◌≡◌, ◌≤◌, ◌+◌, ◌^◌, None, length, max, IfOk, OnOk, OnErr, MatchResult};
 ghost use Rattle.page_ids.specs.Faults.{IsCounted};
-ghost use Rattle.redo_mark.specs.Device.{Tells, IsPut, IsTorn, IsSynced, IsSame};
+ghost use Rattle.redo_mark.specs.Device.{Tells, IsPieceWritten, IsTorn, IsSynced, IsSame};
 ghost use Rattle.page_disk.specs.Calls.{CountsOnce};
 
 use page_disk::FaultCount;
@@ -51,7 +51,7 @@ impl RedoDisk for LogFile {
     fn write_at(&mut self, at: u64, piece: &[u8]) -> Result<(), Failed>
         requires within { at ≤ self.old.reach }
         requires limit { at + length piece.now ≤ 2 ^ 63 }
-        ensures put { OnOk result (Tells None None (IsPut at piece.now)) }
+        ensures put { OnOk result (Tells None None (IsPieceWritten at piece.now)) }
         ensures torn { OnErr result (Tells None None (IsTorn at (length piece.now))) }
         ensures reach { self.old.reach ≤ self.new.reach }
         ensures reached { OnOk result (at + length piece.now ≤ self.new.reach) }

@@ -1,7 +1,7 @@
 //! Standard input as a source, and standard output as a sink.
 ghost use Rattle.std.specs.Prelude.{◌≡◌, ◌<◌, ◌≤◌, length, IfOk, None};
 ghost use Rattle.page_ids.specs.Faults.{IsCounted};
-ghost use Rattle.page_disk.specs.Streams.{Takes, Puts};
+ghost use Rattle.page_disk.specs.Streams.{TakesPiece, PutsPiece};
 ghost use Rattle.page_disk.specs.Calls.{CountsOnce};
 
 use page_disk::{FaultCount, Sink, Source};
@@ -80,7 +80,7 @@ impl<R: Read + Drop> Source for InputStream<R> {
     /// A reader whose descriptor is closed reads as empty.
     fn take(&mut self, out: &mut [u8]) -> Result<u32, Failed>
         requires { 0 < length out.old }
-        ensures bytes { Takes None None result out.new }
+        ensures bytes { TakesPiece None None result out.new }
         ensures cause { IsCounted self.old.faults self.new.faults result }
         ensures once { CountsOnce self.old.faults self.new.faults result }
     {
@@ -130,7 +130,7 @@ impl<W: Write + Drop> Sink for OutputStream<W> {
     /// A writer that takes nothing of a piece has failed.
     fn put(&mut self, piece: &[u8]) -> Result<u32, Failed>
         requires { 0 < length piece.now }
-        ensures bytes { Puts None None result piece.now }
+        ensures bytes { PutsPiece None None result piece.now }
         ensures cause { IsCounted self.old.faults self.new.faults result }
         ensures once { CountsOnce self.old.faults self.new.faults result }
     {

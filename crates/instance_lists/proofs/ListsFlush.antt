@@ -15,7 +15,7 @@ use Rattle.trail.specs.declared.event.Entry.{Entry}
 use Rattle.trail.specs.History.{home}
 use Rattle.trail.specs.Dirt.{dirty, dirtied, cleaned, dirt_of, is_dirty, log_end}
 use Rattle.instance_lists.specs.Ledger.{IsVacant}
-use Rattle.instance_lists.specs.KeptLists.{KeepsHomes, KeepsDirty, AreLogged, page_in, node_of, dirty_lsn, newest_in, after_change, after_write}
+use Rattle.instance_lists.specs.KeptLists.{KeepsHomes, KeepsDirty, AreLogged, tenant_in, node_of, dirty_lsn, newest_in, after_change, after_write}
 use Rattle.instance_lists.proofs.Basics.{some_same, none_some}
 use Rattle.instance_lists.proofs.Dirt.{no_way, same_self, same_is, dirtied_here, dirtied_other, dirtied_is, cleaned_of, cleaned_absent}
 
@@ -26,6 +26,10 @@ not_some (Some a) is = absurd (no_way is)
 -- what was read at a place below the length
 pub read_at : {A : Type 0} → (xs : List A) (i : ℕ) (d x : A) → x ≡ slice_index_or xs i x → i < length xs → x ≡ slice_index_or xs i d
 read_at xs i d x is below = is ∙ get_or_default xs i x d below
+
+-- and the page that was read of a frame
+pub tenant_at : (tenants : List PageId) (f : ℕ) (p : PageId) → p ≡ slice_index_or tenants f p → f < length tenants → p ≡ tenant_in tenants f
+tenant_at tenants f = read_at tenants f (record { space = 0; page = 0 })
 
 -- The dirty pages as they stand in the flush list.
 abbrev pub nodes : List Entry → List Dirty → List Node
@@ -298,7 +302,7 @@ module _ (c : Config) (h : List Entry) (homes : PageId → Option ℕ) (tenants 
   pub tail_soiled : (f : ℕ) → option_map (λ (x : Node). x.frame) (tail_of flush.listed) ≡ Some f → is_some (newest_in newest f) ≡ true
   tail_soiled f is = let found = first_is f is in ap (is_some {T = ℕ}) found.last
 
-  pub oldest_is : (f : ℕ) (p : PageId) (first last : ℕ) → option_map (λ (x : Node). x.frame) (tail_of flush.listed) ≡ Some f → p ≡ page_in tenants f
+  pub oldest_is : (f : ℕ) (p : PageId) (first last : ℕ) → option_map (λ (x : Node). x.frame) (tail_of flush.listed) ≡ Some f → p ≡ tenant_in tenants f
       → option_map (λ (x : Node). x.oldest) (tail_of flush.listed) ≡ Some first → newest_in newest f ≡ Some last → IsOldest h (record { page = p; oldest = first; newest = last })
   oldest_is f p first last is page from to =
       let found = first_is f is in

@@ -1,5 +1,5 @@
 -- The lists stay those of the history as entries come.
-use Rattle.std.proofs.Common.{◌≡◌, ◌≢◌, ◌∙◌, ◌==◌, ◌+◌, ◌<◌, ◌≤◌, ◌++◌, ℕ, Bool, true, false, not, cond, List, [], ◌∷◌, length, filter, set, drop, take, reverse, Option, Some, None, refl, sym, ap, subst, arith, inl, inr, eq-eqb}
+use Rattle.std.proofs.Common.{◌≡◌, ◌≢◌, ◌∙◌, ◌==◌, ◌+◌, ◌<◌, ◌≤◌, ◌++◌, ℕ, Bool, true, false, not, cond, List, [], ◌∷◌, length, filter, set, drop, reverse, Option, Some, None, refl, sym, ap, subst, arith, inl, inr, eq-eqb}
 use Rattle.std.specs.Option.{option_map_or, option_to_list}
 use Rattle.std.proofs.lemmas.List.{reverse-append, get_or-set_same, get_or-set_other, length-set}
 use Rattle.std.proofs.lemmas.Bool.{cases_eq}
@@ -8,7 +8,7 @@ use Rattle.page_ids.specs.Same.{same_page}
 use Rattle.page_ids.specs.declared.ids.PageId.{PageId}
 use Rattle.page_ids.specs.declared.config.Config.{Config}
 use Rattle.page_ids.specs.declared.frame_word.Word.{Word}
-use Rattle.midpoint_lru.specs.View.{View}
+use Rattle.midpoint_lru.specs.View.{View, IsNew}
 use Rattle.flush_list.specs.View.{View as Flush}
 use Rattle.trail.specs.declared.event.Call.{Call}
 use Rattle.trail.specs.declared.event.Cause.{Cause}
@@ -19,15 +19,16 @@ use Rattle.trail.specs.declared.event.Kind.TheVariants as kind
 use Rattle.trail.specs.Trails.{mark}
 use Rattle.trail.specs.History.{home, home_after}
 use Rattle.trail.specs.declared.event.Hand.{Hand}
-use Rattle.trail.specs.Book.{Book, book, book_after, first_in, give, give_next, is_holder, is_late, without, front, frame_in_turn, use_frame}
+use Rattle.page_ids.specs.FrameLists.{without, front}
+use Rattle.trail.specs.Book.{Book, book, book_after, first_in, give, give_next, is_holder, is_late, frame_in_turn, use_frame}
 use Rattle.trail.specs.Dirt.{dirty, dirty_after, is_dirty, log_end, log_end_after}
 use Rattle.trail.specs.Order.{order, order_after}
-use Rattle.instance_lists.specs.Ledger.{IsVacant}
-use Rattle.instance_lists.specs.KeptLists.{AreKept, KeepsHomes, KeepsBook, KeepsDirty, Absent, AreFrames, in_turn, turned, own_hand, others_hand, plain_book, page_in, is_quiet, AreOthersUsed, newest_in, after_change, after_write}
+use Rattle.instance_lists.specs.Ledger.{Ledger, IsVacant}
+use Rattle.instance_lists.specs.KeptLists.{AreKept, KeepsHomes, KeepsBook, KeepsDirty, Absent, AreOnceBelow, in_turn, turned, own_hand, others_hand, plain_book, tenant_in, is_quiet, AreOthersUsed, newest_in, after_change, after_write}
 use Rattle.instance_lists.proofs.Basics.{some_same, none_some}
 use Rattle.instance_lists.proofs.Dirt.{no_way, same_self, same_is, same_turned}
 use Rattle.instance_lists.proofs.ListsFlush.{dirt_on, dirt_load, dirt_evict, dirt_put, dirt_write, dirt_write_away}
-use Rattle.instance_lists.proofs.ListsOrder.{order_on, order_fix, order_load, order_evict}
+use Rattle.instance_lists.proofs.ListsOrder.{is_new, order_on, order_fix, order_load, order_evict}
 
 -- The frames in turn.
 first_turn : (hand : Option Hand) (free : List ℕ) → first_in (option_to_list hand) free ≡ front (in_turn hand free)
@@ -75,7 +76,7 @@ absent_last : (f g : ℕ) (fs : List ℕ) → f ≢ g → Absent f fs → Absent
 absent_last f g [] ne a = (ne, tt)
 absent_last f g (x ∷ fs) ne a = (a.0, absent_last f g fs ne a.1)
 
-frames_last : (n g : ℕ) (fs : List ℕ) → g < n → Absent g fs → AreFrames n fs → AreFrames n (fs ++ g ∷ [])
+frames_last : (n g : ℕ) (fs : List ℕ) → g < n → Absent g fs → AreOnceBelow n fs → AreOnceBelow n (fs ++ g ∷ [])
 frames_last n g [] lt a fs = (lt, tt, tt)
 frames_last n g (x ∷ xs) lt a fs = (fs.0, absent_last x g xs (λ e. a.0 (sym e)) fs.1, frames_last n g xs lt a.1 fs.2)
 
@@ -123,9 +124,9 @@ homes_load c h new homes more tenants p f after grown below none k = record {
     housed q g true here = omega (arith, below, some_same f g here)
     housed q g false here = k.housed q g here
 
-    tenant : (q : PageId) (g : ℕ) (b : Bool) → same_page p q ≡ b → cond b (Some f) (home h q) ≡ Some g → page_in (set tenants f p) g ≡ q
+    tenant : (q : PageId) (g : ℕ) (b : Bool) → same_page p q ≡ b → cond b (Some f) (home h q) ≡ Some g → tenant_in (set tenants f p) g ≡ q
     tenant q g true same here =
-        ap (page_in (set tenants f p)) (sym (some_same f g here)) ∙ get_or-set_same tenants f p nowhere (omega (arith, below, k.tenant_count)) ∙ same_is p q same
+        ap (tenant_in (set tenants f p)) (sym (some_same f g here)) ∙ get_or-set_same tenants f p nowhere (omega (arith, below, k.tenant_count)) ∙ same_is p q same
     tenant q g false same here =
         get_or-set_other tenants f g p nowhere (λ e. none q (here ∙ ap (λ (m : ℕ). Some m) e)) ∙ k.tenants_are q g here
 
@@ -155,7 +156,7 @@ book_load : (c : Config) (h new : List Entry) (free rest : List ℕ) (hand : Opt
     → ((q : PageId) → home new q ≡ cond (same_page p q) (Some f) (home h q)) → book c new ≡ use_frame f (book c h) → in_turn hand free ≡ f ∷ rest
     → KeepsBook c h free hand → KeepsBook c new rest None
 book_load c h new free rest hand p f after used turn k =
-    let frames : AreFrames c.frames (f ∷ rest) = subst (λ (l : List ℕ). AreFrames c.frames l) turn k.distinct in
+    let frames : AreOnceBelow c.frames (f ∷ rest) = subst (λ (l : List ℕ). AreOnceBelow c.frames l) turn k.distinct in
     record {
       book_is = used ∙ ap (use_frame f) k.book_is
           ∙ ap (λ (l : List ℕ). plain_book c l (filter (λ (x : Hand). not (x.frame == f)) (option_to_list hand))) (without_next hand free f rest turn frames.1)
@@ -174,7 +175,7 @@ book_evict : (c : Config) (h new : List Entry) (homes : PageId → Option ℕ) (
 book_evict c h new homes tenants free hand e p f passed after used turn here homed k = record {
   book_is = used ∙ ap (book_after c.frames e (kind.Evict p f passed)) k.book_is
       ∙ ap (λ (o : Option Hand). plain_book c free (record { frame = f; caller = e.caller; number = e.number } ∷ option_to_list o)) none.0;
-  distinct = subst (λ (l : List ℕ). AreFrames c.frames (f ∷ l)) (sym none.1) (homed.housed p f here, tt, tt);
+  distinct = subst (λ (l : List ℕ). AreOnceBelow c.frames (f ∷ l)) (sym none.1) (homed.housed p f here, tt, tt);
   taken = λ q g there. subst (λ (l : List ℕ). Absent g (f ∷ l)) (sym none.1) (away q g (same_page p q) refl (sym (after q) ∙ there), tt);
 }
   where
@@ -184,12 +185,12 @@ book_evict c h new homes tenants free hand e p f passed after used turn here hom
     away : (q : PageId) (g : ℕ) (b : Bool) → same_page p q ≡ b → cond b None (home h q) ≡ Some g → g ≢ f
     away q g true same there e = none_some g there
     away q g false same there e =
-        let one : p ≡ q = sym (homed.tenants_are p f here) ∙ ap (page_in tenants) (sym e) ∙ homed.tenants_are q g there in
+        let one : p ≡ q = sym (homed.tenants_are p f here) ∙ ap (tenant_in tenants) (sym e) ∙ homed.tenants_are q g there in
         no_way (sym (ap (same_page p) (sym one) ∙ same_self p) ∙ same)
 
 -- frames in another order
 record AreTurned (old new : List ℕ) : Type 0 where
-  pub frames : (n : ℕ) → AreFrames n old → AreFrames n new
+  pub frames : (n : ℕ) → AreOnceBelow n old → AreOnceBelow n new
   pub away : (f : ℕ) → Absent f old → Absent f new
   pub back : (f : ℕ) → Absent f new → Absent f old
   pub long : length new ≡ length old
@@ -228,7 +229,7 @@ given_front c hands (g ∷ gs) others =
     ∙ ap (plain_book c (gs ++ g ∷ [])) (others g gs refl)
 
 -- a call that was refused gives its frame back, and leaves the one in another's hand
-given_is : (c : Config) (free : List ℕ) (hand : Option Hand) (caller number : ℕ) → AreFrames c.frames (in_turn hand free)
+given_is : (c : Config) (free : List ℕ) (hand : Option Hand) (caller number : ℕ) → AreOnceBelow c.frames (in_turn hand free)
     → give_next c.frames caller number (plain_book c free (option_to_list hand)) ≡ plain_book c (turned (in_turn (own_hand caller number hand) free)) (option_to_list (others_hand caller number hand))
 given_is c free None caller number frames = given_front c [] free (λ g gs is. refl)
 given_is c free (Some x) caller number frames = cases (is_holder caller number x)
@@ -257,16 +258,16 @@ book_late c h new free hand caller number same gave k =
 
 -- The frames that are not in turn.
 pub used_on : (c : Config) (h new : List Entry) (tenants : List PageId) (fs : List ℕ) → ((p : PageId) → home new p ≡ home h p) → AreOthersUsed c h tenants fs → AreOthersUsed c new tenants fs
-used_on c h new tenants fs same k = λ f below away. same (page_in tenants f) ∙ k f below away
+used_on c h new tenants fs same k = λ f below away. same (tenant_in tenants f) ∙ k f below away
 
 used_load : (c : Config) (h new : List Entry) (tenants : List PageId) (p : PageId) (f : ℕ) (rest : List ℕ)
     → ((q : PageId) → home new q ≡ cond (same_page p q) (Some f) (home h q)) → home h p ≡ None → f < length tenants → AreOthersUsed c h tenants (f ∷ rest) → AreOthersUsed c new (set tenants f p) rest
 used_load c h new tenants p f rest after absent below k = λ g inside away. elim (cases_eq g f) [
   | inl e ↦
-      let own : page_in (set tenants f p) g ≡ p = ap (page_in (set tenants f p)) e ∙ get_or-set_same tenants f p nowhere below in
+      let own : tenant_in (set tenants f p) g ≡ p = ap (tenant_in (set tenants f p)) e ∙ get_or-set_same tenants f p nowhere below in
       ap (home new) own ∙ after p ∙ ap (λ (b : Bool). cond b (Some f) (home h p)) (same_self p) ∙ ap (λ (m : ℕ). Some m) (sym e)
   | inr ne ↦
-      let q = page_in tenants g in
+      let q = tenant_in tenants g in
       ap (home new) (get_or-set_other tenants f g p nowhere ne) ∙ after q ∙ stays g q (same_page p q) refl (k g inside (ne, away))
 ]
   where
@@ -280,7 +281,7 @@ used_load c h new tenants p f rest after absent below k = λ g inside away. elim
 used_evict : (c : Config) (h new : List Entry) (tenants : List PageId) (p : PageId) (f : ℕ) (free : List ℕ)
     → ((q : PageId) → home new q ≡ cond (same_page p q) None (home h q)) → home h p ≡ Some f → AreOthersUsed c h tenants [] → AreOthersUsed c new tenants (f ∷ free)
 used_evict c h new tenants p f free after here k = λ g inside away.
-    let q = page_in tenants g in
+    let q = tenant_in tenants g in
     after q ∙ stays g q away.0 (same_page p q) refl (k g inside tt)
   where
     stays : (g : ℕ) (q : PageId) → g ≢ f → (b : Bool) → same_page p q ≡ b → home h q ≡ Some g → cond b None (home h q) ≡ Some g
@@ -288,7 +289,7 @@ used_evict c h new tenants p f free after here k = λ g inside away.
     stays g q ne false same was = was
 
 used_late : (c : Config) (h new : List Entry) (tenants : List PageId) (fs gs : List ℕ) → ((p : PageId) → home new p ≡ home h p) → AreTurned fs gs → AreOthersUsed c h tenants fs → AreOthersUsed c new tenants gs
-used_late c h new tenants fs gs same turn k = λ f below away. same (page_in tenants f) ∙ k f below (turn.back f away)
+used_late c h new tenants fs gs same turn k = λ f below away. same (tenant_in tenants f) ∙ k f below (turn.back f away)
 
 -- What a quiet entry leaves.
 record IsQuiet (k : Kind) : Type 0 where
@@ -324,7 +325,7 @@ leaves (kind.Unwatch p) quiet = record { homes = λ q b. refl; books = λ per e 
 leaves (kind.Dump pct ids) quiet = record { homes = λ q b. refl; books = λ per e b. refl; dirt = λ ds. refl; ends = λ n. refl; orders = λ n o. refl }
 leaves (kind.Refused asked why) quiet = record { homes = λ q b. refl; books = λ per e b. in_time (is_late asked why) b (give_next per e.caller e.number b) quiet; dirt = λ ds. refl; ends = λ n. refl; orders = λ n o. refl }
 
-module _ (c : Config) (h : List Entry) (homes : PageId → Option ℕ) (tenants : List PageId) (free : List ℕ) (hand : Option Hand) (newest : List (Option ℕ)) (flush : Flush) (lru : View) (seats : ℕ)
+module _ {c : Config} {h : List Entry} {homes : PageId → Option ℕ} {tenants : List PageId} {free : List ℕ} {hand : Option Hand} {newest : List (Option ℕ)} {flush : Flush} {lru : View} {seats : ℕ}
     (k : AreKept c h homes tenants free hand newest flush lru seats) (e : Entry) (place : e.place ≡ mark c.first h + 1) where
   placed : e.place ≡ c.first + length (e ∷ h)
   placed = omega (arith, place, k.places)
@@ -404,7 +405,7 @@ module _ (c : Config) (h : List Entry) (homes : PageId → Option ℕ) (tenants 
   kept_load p f more rest is absent turn grown =
       let after : (q : PageId) → home (e ∷ h) q ≡ cond (same_page p q) (Some f) (home h q) = λ q. ap (λ (x : Kind). home_after x q (home h q)) is in
       let none : IsVacant h f = vacant_from c h free hand f rest k.booked turn in
-      let frames : AreFrames c.frames (f ∷ rest) = subst (λ (l : List ℕ). AreFrames c.frames l) turn k.booked.distinct in
+      let frames : AreOnceBelow c.frames (f ∷ rest) = subst (λ (l : List ℕ). AreOnceBelow c.frames l) turn k.booked.distinct in
       let long : length (in_turn hand free) ≡ length (f ∷ rest) = ap (length {A = ℕ}) turn in
       record {
         one = k.one;
@@ -456,11 +457,11 @@ module _ (c : Config) (h : List Entry) (homes : PageId → Option ℕ) (tenants 
         seated = omega (arith, turn.long, k.seated);
       }
 
--- lists that are equal to those
-pub kept_as : (c : Config) (h new : List Entry) (homes : PageId → Option ℕ) (tenants : List PageId) (free free' : List ℕ) (hand hand' : Option Hand) (newest newest' : List (Option ℕ)) (flush flush' : Flush) (lru lru' : View) (seats seats' : ℕ)
+-- lists that are equal to those, over a history that is equal to this one
+pub kept_as : {c : Config} {h new : List Entry} {homes : PageId → Option ℕ} {tenants : List PageId} {free free' : List ℕ} {hand hand' : Option Hand} {newest newest' : List (Option ℕ)} {flush flush' : Flush} {lru lru' : View} {seats seats' : ℕ}
     → new ≡ h → free' ≡ free → hand' ≡ hand → newest' ≡ newest → flush' ≡ flush → lru' ≡ lru → seats' ≡ seats
     → AreKept c h homes tenants free hand newest flush lru seats → AreKept c new homes tenants free' hand' newest' flush' lru' seats'
-kept_as c h new homes tenants free free' hand hand' newest newest' flush flush' lru lru' seats seats' same frees hands marks dirt order room k =
+kept_as {c} {h} {new} {homes} {tenants} {free} {free'} {hand} {hand'} {newest} {newest'} {flush} {flush'} {lru} {lru'} {seats} {seats'} same frees hands marks dirt order room k =
     let H : List Entry → Type 0 = λ x. AreKept c x homes tenants free' hand' newest' flush' lru' seats' in
     let F : List ℕ → Type 0 = λ x. AreKept c h homes tenants x hand' newest' flush' lru' seats' in
     let N : Option Hand → Type 0 = λ x. AreKept c h homes tenants free x newest' flush' lru' seats' in
@@ -470,26 +471,50 @@ kept_as c h new homes tenants free free' hand hand' newest newest' flush flush' 
     let S : ℕ → Type 0 = λ x. AreKept c h homes tenants free hand newest flush lru x in
     subst H (sym same) (subst F (sym frees) (subst N (sym hands) (subst M (sym marks) (subst D (sym dirt) (subst L (sym order) (subst S (sym room) k))))))
 
--- The frame that is next is the first in turn, and no page's home.
-pub record ComesTo (c : Config) (h : List Entry) (free : List ℕ) (hand : Option Hand) (f : ℕ) : Type 0 where
-  pub turn : in_turn hand free ≡ f ∷ drop 1 (in_turn hand free)
-  pub below : f < c.frames
-  pub vacant : IsVacant h f
-
-pub comes_to : (c : Config) (h : List Entry) (free : List ℕ) (hand : Option Hand) (f : ℕ) → KeepsBook c h free hand → frame_in_turn (book c h) ≡ Some f → ComesTo c h free hand f
-comes_to c h free hand f k next =
-    let turn = front_is (in_turn hand free) f (sym (next_is c h free hand k) ∙ next) in
-    let frames = subst (λ (l : List ℕ). AreFrames c.frames l) turn k.distinct in
-    record { turn = turn; below = frames.0; vacant = vacant_from c h free hand f _ k turn }
-
 -- a page came or left, as the hash tells it
-pub rehomed : (old new : PageId → Option ℕ) (p : PageId) (to : Option ℕ) → ((q : PageId) → new q ≡ cond (same_page q p) to (old q)) → (q : PageId) → new q ≡ cond (same_page p q) to (old q)
-rehomed old new p to came q = came q ∙ ap (λ (b : Bool). cond b to (old q)) (same_turned q p)
-
--- a frame that is no page's home is unused in a map of the homes
-pub unused_from : (h : List Entry) (homes : PageId → Option ℕ) (f : ℕ) → ((p : PageId) → homes p ≡ home h p) → IsVacant h f → (p : PageId) → homes p ≢ Some f
-unused_from h homes f are vacant p here = vacant p (sym (are p) ∙ here)
+pub rehomed : (old : PageId → Option ℕ) {new : PageId → Option ℕ} (p : PageId) (to : Option ℕ) → ((q : PageId) → new q ≡ cond (same_page q p) to (old q)) → (q : PageId) → new q ≡ cond (same_page p q) to (old q)
+rehomed old p to came q = came q ∙ ap (λ (b : Bool). cond b to (old q)) (same_turned q p)
 
 -- the history after a push
-pub pushed : (old new : List Entry) (e : Entry) → new ≡ old ++ e ∷ [] → reverse new ≡ e ∷ reverse old
-pushed old new e grown = ap reverse grown ∙ reverse-append old (e ∷ [])
+pub pushed : (old : List Entry) {new : List Entry} {e : Entry} → new ≡ old ++ e ∷ [] → reverse new ≡ e ∷ reverse old
+pushed old {new} {e} grown = ap reverse grown ∙ reverse-append old (e ∷ [])
+
+-- What holds of the ledger holds of the lists that it is seen from.
+module _ {seen l : Ledger} (is : seen ≡ l) where
+  pub next_place : (e : Entry) → e.place ≡ mark l.config.first l.history + 1 → e.place ≡ mark seen.config.first seen.history + 1
+  next_place e = subst (λ (x : Ledger). e.place ≡ mark x.config.first x.history + 1) (sym is)
+
+  pub seen_behind : (start : ℕ) → log_end l.history ≤ start → log_end seen.history ≤ start
+  seen_behind start = subst (λ (x : Ledger). log_end x.history ≤ start) (sym is)
+
+  pub seen_home : (p : PageId) (f : ℕ) → home l.history p ≡ Some f → home seen.history p ≡ Some f
+  seen_home p f = subst (λ (x : Ledger). home x.history p ≡ Some f) (sym is)
+
+-- A page without a home, and the frame that is next: it is the first in turn, and what the hash and the LRU list need of both.
+pub record Comes (c : Config) (h : List Entry) (homes : PageId → Option ℕ) (free : List ℕ) (hand : Option Hand) (lru : View) (p : PageId) (f : ℕ) : Type 0 where
+  pub absent : home h p ≡ None
+  pub turn : in_turn hand free ≡ f ∷ drop 1 (in_turn hand free)
+  pub below : f < c.frames
+  pub unfiled : homes p ≡ None
+  pub unused : (q : PageId) → homes q ≢ Some f
+  pub new : IsNew lru f
+
+pub comes : {seen l : Ledger} {homes : PageId → Option ℕ} {tenants : List PageId} {free : List ℕ} {hand : Option Hand} {newest : List (Option ℕ)} {flush : Flush} {lru : View} {seats : ℕ}
+    → seen ≡ l → AreKept seen.config seen.history homes tenants free hand newest flush lru seats → (p : PageId) (f : ℕ)
+    → home l.history p ≡ None → frame_in_turn (book l.config l.history) ≡ Some f → Comes seen.config seen.history homes free hand lru p f
+comes {seen} {l} {homes} {tenants} {free} {hand} {newest} {flush} {lru} is k p f away following =
+    let c = seen.config in
+    let h = seen.history in
+    let absent = subst (λ (x : Ledger). home x.history p ≡ None) (sym is) away in
+    let next = subst (λ (x : Ledger). frame_in_turn (book x.config x.history) ≡ Some f) (sym is) following in
+    let turn = front_is (in_turn hand free) f (sym (next_is c h free hand k.booked) ∙ next) in
+    let frames = subst (λ (fs : List ℕ). AreOnceBelow c.frames fs) turn k.booked.distinct in
+    let vacant = vacant_from c h free hand f _ k.booked turn in
+    record {
+      absent = absent;
+      turn = turn;
+      below = frames.0;
+      unfiled = k.homed.homes_are p ∙ absent;
+      unused = λ q here. vacant q (sym (k.homed.homes_are q) ∙ here);
+      new = is_new c h homes tenants lru k.homed k.ordered f vacant frames.0;
+    }

@@ -33,13 +33,13 @@ read_in_listed v f =
 abbrev pub as_load : Entry → PageId → ℕ → Entry
 as_load e p f = record e { kind = kind.Load p f }
 
-module _ (c : Config) (h : List Entry) (homes : PageId → Option ℕ) (tenants : List PageId) (free : List ℕ) (hand : Option Hand) (newest : List (Option ℕ)) (flush : Flush) (lru : View) (seats : ℕ)
+module _ {c : Config} {h : List Entry} {homes : PageId → Option ℕ} {tenants : List PageId} {free : List ℕ} {hand : Option Hand} {newest : List (Option ℕ)} {flush : Flush} {lru : View} {seats : ℕ}
     (k : AreKept c h homes tenants free hand newest flush lru seats) (e : Entry) (place : e.place ≡ mark c.first h + 1)
-    (p : PageId) (f : ℕ) (more : PageId → Option ℕ) (rest : List ℕ) (absent : home h p ≡ None) (turn : in_turn hand free ≡ f ∷ rest)
+    (p : PageId) (f : ℕ) {more : PageId → Option ℕ} {rest : List ℕ} (absent : home h p ≡ None) (turn : in_turn hand free ≡ f ∷ rest)
     (grown : (q : PageId) → more q ≡ cond (same_page p q) (Some f) (homes q)) where
   -- the page comes
   pub kept_first : AreKept c (as_load e p f ∷ h) more (set tenants f p) rest None newest flush (record lru { order = read_in lru.numbers f lru.order }) seats
-  kept_first = kept_load c h homes tenants free hand newest flush lru seats k (as_load e p f) place p f more rest refl absent turn grown
+  kept_first = kept_load k (as_load e p f) place p f more rest refl absent turn grown
 
   home_first : home (as_load e p f ∷ h) p ≡ Some f
   home_first = ap (λ (b : Bool). cond b (Some f) (home h p)) (same_self p)

@@ -9,7 +9,7 @@ use Rattle.page_ids.specs.declared.config.Config.{Config}
 use Rattle.midpoint_lru.specs.View.{View}
 use Rattle.flush_list.specs.View.{View as Flush}
 use Rattle.trail.specs.declared.event.Dirty.{Dirty}
-use Rattle.instance_lists.specs.KeptLists.{AreKept, Absent, AreFrames, plain_book, page_in, newest_in}
+use Rattle.instance_lists.specs.KeptLists.{AreKept, Absent, AreOnceBelow, plain_book, tenant_in, newest_in}
 
 rising_push : (from n : ℕ) → rising from (suc n) ≡ rising from n ++ (from + n) ∷ []
 rising_push from zero = let same : from ≡ from + 0 = omega arith in ap (λ (f : ℕ). f ∷ []) same
@@ -31,7 +31,7 @@ absent_rising : (f from k : ℕ) → f < from → Absent f (rising from k)
 absent_rising f from zero lt = tt
 absent_rising f from (suc k) lt = (λ e. absurd (omega (arith, e, lt)), absent_rising f (from + 1) k (omega (arith, lt)))
 
-frames_rising : (from k n : ℕ) → from + k ≤ n → AreFrames n (rising from k)
+frames_rising : (from k n : ℕ) → from + k ≤ n → AreOnceBelow n (rising from k)
 frames_rising from zero n le = tt
 frames_rising from (suc k) n le = (omega (arith, le), absent_rising from (from + 1) k (omega arith), frames_rising (from + 1) k n (omega (arith, le)))
 
@@ -45,7 +45,7 @@ pub kept_new : (c : Config) (homes : PageId → Option ℕ) (tenants : List Page
     → newest ≡ replicate c.frames None → flush ≡ record { listed = []; room = c.frames }
     → AreKept c [] homes tenants free None newest flush lru seats
 kept_new c homes tenants free newest flush lru seats one empty count free_is numbers order room more none listed =
-    let F : List ℕ → Type 0 = λ l. AreFrames c.frames l in
+    let F : List ℕ → Type 0 = λ l. AreOnceBelow c.frames l in
     let all : chunks_of c * c.frames ≡ c.frames = ap (λ n. n * c.frames) one ∙ times_one c.frames in
     let long : length free ≡ c.frames = ap (length {A = ℕ}) free_is ∙ length-rising 0 c.frames in
     record {
@@ -75,7 +75,7 @@ kept_new c homes tenants free newest flush lru seats one empty count free_is num
       ordered = record {
         numbers_are = numbers;
         room_is = room;
-        order_is = ap (under (page_in tenants)) (sym order);
+        order_is = ap (under (tenant_in tenants)) (sym order);
         counted = λ f. ap (λ (o : Order ℕ). count_of (λ g. g == f) o.listed) order;
         evicts = omega (arith, ap (λ (o : Order ℕ). o.evicts) order);
       };

@@ -19,7 +19,7 @@ use Rattle.trail.specs.History.{home, home_after}
 use Rattle.trail.specs.Order.{order, order_after}
 use Rattle.instance_lists.specs.Ledger.{IsVacant}
 use Rattle.instance_lists.specs.Walk.{is_in_frame}
-use Rattle.instance_lists.specs.KeptLists.{KeepsHomes, KeepsOrder, page_in}
+use Rattle.instance_lists.specs.KeptLists.{KeepsHomes, KeepsOrder, tenant_in}
 use Rattle.instance_lists.proofs.Basics.{some_same}
 use Rattle.instance_lists.proofs.Dirt.{same_self, same_is}
 use Rattle.instance_lists.proofs.Walks.{in_frame}
@@ -46,18 +46,18 @@ module _ (c : Config) (h : List Entry) (homes : PageId → Option ℕ) (tenants 
   -- a page's home is listed once, and a vacant frame is not
   pub count_home : (p : PageId) (f : ℕ) → home h p ≡ Some f → times f lru ≡ 1
   count_home p f here =
-      let at : is_in_frame h f (page_in tenants f) ≡ true = ap (λ q. is_in_frame h f q) (homed.tenants_are p f here) ∙ at_frame (home h p) f here in
+      let at : is_in_frame h f (tenant_in tenants f) ≡ true = ap (λ q. is_in_frame h f q) (homed.tenants_are p f here) ∙ at_frame (home h p) f here in
       k.counted f ∙ ap (λ (b : Bool). cond {A = ℕ} b 1 0) at
 
   pub count_vacant : (f : ℕ) → IsVacant h f → times f lru ≡ 0
-  count_vacant f none = k.counted f ∙ ap (λ (b : Bool). cond {A = ℕ} b 1 0) (off_frame (home h (page_in tenants f)) f (none (page_in tenants f)))
+  count_vacant f none = k.counted f ∙ ap (λ (b : Bool). cond {A = ℕ} b 1 0) (off_frame (home h (tenant_in tenants f)) f (none (tenant_in tenants f)))
 
   -- who is listed is the home of the page that it had last
-  pub listed_home : (i : ℕ) (d : Listed ℕ) → i < length lru.order.listed → home h (page_in tenants (get_or lru.order.listed i d).key) ≡ Some (get_or lru.order.listed i d).key
+  pub listed_home : (i : ℕ) (d : Listed ℕ) → i < length lru.order.listed → home h (tenant_in tenants (get_or lru.order.listed i d).key) ≡ Some (get_or lru.order.listed i d).key
   listed_home i d inside =
       let f = (get_or lru.order.listed i d).key in
       let least = count_from_place (λ g. g == f) lru.order.listed i d inside (eq-eqb f f refl) in
-      in_frame (home h (page_in tenants f)) f (one_passes (is_in_frame h f (page_in tenants f)) (omega (arith, least, k.counted f)))
+      in_frame (home h (tenant_in tenants f)) f (one_passes (is_in_frame h f (tenant_in tenants f)) (omega (arith, least, k.counted f)))
 
   pub is_listed : (p : PageId) (f : ℕ) → home h p ≡ Some f → Has lru f
   is_listed p f here = listed_from_count ◌==◌ f lru.order.listed (omega (arith, count_home p f here))
@@ -72,11 +72,11 @@ module _ (c : Config) (h : List Entry) (homes : PageId → Option ℕ) (tenants 
   }
 
   -- pages tell their frames apart
-  pub told_apart : (p : PageId) (f : ℕ) → home h p ≡ Some f → IsToldApart ◌==◌ same_page (page_in tenants) f lru.order.listed
+  pub told_apart : (p : PageId) (f : ℕ) → home h p ≡ Some f → IsToldApart ◌==◌ same_page (tenant_in tenants) f lru.order.listed
   told_apart p f here i d inside =
       let g = (get_or lru.order.listed i d).key in
-      let own : home h (page_in tenants f) ≡ Some f = ap (home h) (homed.tenants_are p f here) ∙ here in
-      apart (page_in tenants g) (page_in tenants f) g f (listed_home i d inside) own (ap (page_in tenants))
+      let own : home h (tenant_in tenants f) ≡ Some f = ap (home h) (homed.tenants_are p f here) ∙ here in
+      apart (tenant_in tenants g) (tenant_in tenants f) g f (listed_home i d inside) own (ap (tenant_in tenants))
     where
       by_test : (q r : PageId) (g f : ℕ) → home h q ≡ Some g → home h r ≡ Some f → g ≢ f → (b : Bool) → same_page q r ≡ b → b ≡ false
       by_test q r g f there own ne true same = absurd (ne (some_same g f (sym there ∙ ap (home h) (same_is q r same) ∙ own)))
@@ -94,7 +94,7 @@ module _ (c : Config) (h : List Entry) (homes : PageId → Option ℕ) (tenants 
     numbers_are = k.numbers_are;
     room_is = k.room_is;
     order_is = stays ∙ k.order_is;
-    counted = λ f. k.counted f ∙ sym (ap (λ (o : Option ℕ). cond {A = ℕ} (is_frame o f) 1 0) (same (page_in tenants f)));
+    counted = λ f. k.counted f ∙ sym (ap (λ (o : Option ℕ). cond {A = ℕ} (is_frame o f) 1 0) (same (tenant_in tenants f)));
     evicts = omega (arith, k.evicts);
   }
 
@@ -103,17 +103,17 @@ module _ (c : Config) (h : List Entry) (homes : PageId → Option ℕ) (tenants 
       → home h p ≡ Some f → KeepsOrder c new tenants (record lru { order = touch ◌==◌ lru.numbers f now lru.order })
   order_touch new p f now same touched longer here =
       let o = lru.order in
-      let page : p ≡ page_in tenants f = sym (homed.tenants_are p f here) in
+      let page : p ≡ tenant_in tenants f = sym (homed.tenants_are p f here) in
       record {
         numbers_are = k.numbers_are;
         room_is = k.room_is;
         order_is = touched
             ∙ ap (touch same_page (numbers_of c) p now) k.order_is
-            ∙ ap (λ (n : Numbers). touch same_page n p now (under (page_in tenants) o)) (sym k.numbers_are)
-            ∙ ap (λ (q : PageId). touch same_page lru.numbers q now (under (page_in tenants) o)) page
-            ∙ sym (touch-under ◌==◌ same_page (page_in tenants) lru.numbers f now o (told_apart p f here));
+            ∙ ap (λ (n : Numbers). touch same_page n p now (under (tenant_in tenants) o)) (sym k.numbers_are)
+            ∙ ap (λ (q : PageId). touch same_page lru.numbers q now (under (tenant_in tenants) o)) page
+            ∙ sym (touch-under ◌==◌ same_page (tenant_in tenants) lru.numbers f now o (told_apart p f here));
         counted = λ g. count-touch ◌==◌ (λ m. m == g) lru.numbers f now o ∙ k.counted g
-            ∙ sym (ap (λ (o : Option ℕ). cond {A = ℕ} (is_frame o g) 1 0) (same (page_in tenants g)));
+            ∙ sym (ap (λ (o : Option ℕ). cond {A = ℕ} (is_frame o g) 1 0) (same (tenant_in tenants g)));
         evicts = omega (arith, k.evicts, longer);
       }
 
@@ -133,41 +133,41 @@ module _ (c : Config) (h : List Entry) (homes : PageId → Option ℕ) (tenants 
       let o = lru.order in
       let t = set tenants f p in
       let nowhere : PageId = record { space = 0; page = 0 } in
-      let own : page_in t f ≡ p = get_or-set_same tenants f p nowhere (omega (arith, below, homed.tenant_count)) in
+      let own : tenant_in t f ≡ p = get_or-set_same tenants f p nowhere (omega (arith, below, homed.tenant_count)) in
       let homes_are : (q : PageId) → home (e ∷ h) q ≡ cond (same_page p q) (Some f) (home h q) = λ q. ap (λ (x : Kind). home_after x q (home h q)) is in
-      let names : under (page_in tenants) o ≡ under (page_in t) o = under-same (page_in tenants) (page_in t) o (λ i d inside.
+      let names : under (tenant_in tenants) o ≡ under (tenant_in t) o = under-same (tenant_in tenants) (tenant_in t) o (λ i d inside.
       let g = (get_or o.listed i d).key in
-      sym (get_or-set_other tenants f g p nowhere (λ same. none (page_in tenants g) (listed_home i d inside ∙ ap (λ (m : ℕ). Some m) same)))) in
+      sym (get_or-set_other tenants f g p nowhere (λ same. none (tenant_in tenants g) (listed_home i d inside ∙ ap (λ (m : ℕ). Some m) same)))) in
       record {
         numbers_are = k.numbers_are;
         room_is = k.room_is;
         order_is = ap (λ (x : Kind). order_after (numbers_of c) x (order c h)) is
             ∙ ap (read_in (numbers_of c) p) (k.order_is ∙ names)
-            ∙ ap (λ (n : Numbers). read_in n p (under (page_in t) o)) (sym k.numbers_are)
-            ∙ ap (λ (q : PageId). read_in lru.numbers q (under (page_in t) o)) (sym own)
-            ∙ sym (read_in-under (page_in t) lru.numbers f o);
+            ∙ ap (λ (n : Numbers). read_in n p (under (tenant_in t) o)) (sym k.numbers_are)
+            ∙ ap (λ (q : PageId). read_in lru.numbers q (under (tenant_in t) o)) (sym own)
+            ∙ sym (read_in-under (tenant_in t) lru.numbers f o);
         counted = λ g. counted g t homes_are own (λ ne. get_or-set_other tenants f g p nowhere (λ e. ne (sym e)));
         evicts = omega (arith, k.evicts);
       }
     where
-      counted : (g : ℕ) (t : List PageId) → ((q : PageId) → home (e ∷ h) q ≡ cond (same_page p q) (Some f) (home h q)) → page_in t f ≡ p → (f ≢ g → page_in t g ≡ page_in tenants g)
-          → count_of (λ m. m == g) (read_in lru.numbers f lru.order).listed ≡ cond {A = ℕ} (is_in_frame (e ∷ h) g (page_in t g)) 1 0
+      counted : (g : ℕ) (t : List PageId) → ((q : PageId) → home (e ∷ h) q ≡ cond (same_page p q) (Some f) (home h q)) → tenant_in t f ≡ p → (f ≢ g → tenant_in t g ≡ tenant_in tenants g)
+          → count_of (λ m. m == g) (read_in lru.numbers f lru.order).listed ≡ cond {A = ℕ} (is_in_frame (e ∷ h) g (tenant_in t g)) 1 0
       counted g t homes_are own others = elim (cases_eq f g) [
         | inl same ↦
             let came = count-read_in (λ m. m == g) lru.numbers f lru.order in
             let here : cond {A = ℕ} (f == g) 1 0 ≡ 1 = ap (λ (b : Bool). cond {A = ℕ} b 1 0) (eq-eqb f g same) in
             let was : times g lru ≡ 0 = subst (λ (m : ℕ). times m lru ≡ 0) same (count_vacant f none) in
-            let there : home (e ∷ h) (page_in t g) ≡ Some g = ap (λ (m : ℕ). home (e ∷ h) (page_in t m)) (sym same) ∙ ap (home (e ∷ h)) own ∙ homes_are p
+            let there : home (e ∷ h) (tenant_in t g) ≡ Some g = ap (λ (m : ℕ). home (e ∷ h) (tenant_in t m)) (sym same) ∙ ap (home (e ∷ h)) own ∙ homes_are p
             ∙ ap (λ (b : Bool). cond b (Some f) (home h p)) (same_self p) ∙ ap (λ (m : ℕ). Some m) same in
-            let is_one : cond {A = ℕ} (is_in_frame (e ∷ h) g (page_in t g)) 1 0 ≡ 1 = ap (λ (b : Bool). cond {A = ℕ} b 1 0) (at_frame (home (e ∷ h) (page_in t g)) g there) in
+            let is_one : cond {A = ℕ} (is_in_frame (e ∷ h) g (tenant_in t g)) 1 0 ≡ 1 = ap (λ (b : Bool). cond {A = ℕ} b 1 0) (at_frame (home (e ∷ h) (tenant_in t g)) g there) in
             omega (arith, came, here, was, is_one)
         | inr ne ↦
             let came = count-read_in (λ m. m == g) lru.numbers f lru.order in
             let here : cond {A = ℕ} (f == g) 1 0 ≡ 0 = ap (λ (b : Bool). cond {A = ℕ} b 1 0) (ne_eqb f g ne) in
-            let q = page_in tenants g in
-            let alike : is_in_frame (e ∷ h) g (page_in t g) ≡ is_in_frame h g q = ap (λ r. is_in_frame (e ∷ h) g r) (others ne) ∙ ap (λ (o : Option ℕ). is_frame o g) (homes_are q)
+            let q = tenant_in tenants g in
+            let alike : is_in_frame (e ∷ h) g (tenant_in t g) ≡ is_in_frame h g q = ap (λ r. is_in_frame (e ∷ h) g r) (others ne) ∙ ap (λ (o : Option ℕ). is_frame o g) (homes_are q)
             ∙ other_home (same_page p q) (Some f) (home h q) g (λ same. ap (λ (o : Option ℕ). is_frame o g) (ap (home h) (sym (same_is p q same)) ∙ absent) ∙ sym (ne_eqb f g ne)) in
-            let count : cond {A = ℕ} (is_in_frame (e ∷ h) g (page_in t g)) 1 0 ≡ cond {A = ℕ} (is_in_frame h g q) 1 0 = ap (λ (b : Bool). cond {A = ℕ} b 1 0) alike in
+            let count : cond {A = ℕ} (is_in_frame (e ∷ h) g (tenant_in t g)) 1 0 ≡ cond {A = ℕ} (is_in_frame h g q) 1 0 = ap (λ (b : Bool). cond {A = ℕ} b 1 0) alike in
             omega (arith, came, here, k.counted g, count)
       ]
 
@@ -175,15 +175,15 @@ module _ (c : Config) (h : List Entry) (homes : PageId → Option ℕ) (tenants 
       → KeepsOrder c (e ∷ h) tenants (record lru { order = evict ◌==◌ f lru.order })
   order_evict e p f passed is here =
       let o = lru.order in
-      let page : p ≡ page_in tenants f = sym (homed.tenants_are p f here) in
+      let page : p ≡ tenant_in tenants f = sym (homed.tenants_are p f here) in
       let homes_are : (q : PageId) → home (e ∷ h) q ≡ cond (same_page p q) None (home h q) = λ q. ap (λ (x : Kind). home_after x q (home h q)) is in
       record {
         numbers_are = k.numbers_are;
         room_is = k.room_is;
         order_is = ap (λ (x : Kind). order_after (numbers_of c) x (order c h)) is
             ∙ ap (evict same_page p) k.order_is
-            ∙ ap (λ (q : PageId). evict same_page q (under (page_in tenants) o)) page
-            ∙ sym (evict-under ◌==◌ same_page (page_in tenants) f o (told_apart p f here));
+            ∙ ap (λ (q : PageId). evict same_page q (under (tenant_in tenants) o)) page
+            ∙ sym (evict-under ◌==◌ same_page (tenant_in tenants) f o (told_apart p f here));
         counted = λ g. counted g homes_are;
         evicts = omega (arith, k.evicts);
       }
@@ -192,15 +192,15 @@ module _ (c : Config) (h : List Entry) (homes : PageId → Option ℕ) (tenants 
       alike g x e = ap (λ (m : ℕ). m == g) (eqb-true x f e)
 
       counted : (g : ℕ) → ((q : PageId) → home (e ∷ h) q ≡ cond (same_page p q) None (home h q))
-          → count_of (λ m. m == g) (evict ◌==◌ f lru.order).listed ≡ cond {A = ℕ} (is_in_frame (e ∷ h) g (page_in tenants g)) 1 0
+          → count_of (λ m. m == g) (evict ◌==◌ f lru.order).listed ≡ cond {A = ℕ} (is_in_frame (e ∷ h) g (tenant_in tenants g)) 1 0
       counted g homes_are =
           let went = count-evict ◌==◌ (λ m. m == g) f lru.order (alike g) (is_listed p f here) in
-          let q = page_in tenants g in
+          let q = tenant_in tenants g in
           elim (cases_eq f g) [
             | inl same ↦
                 let one : cond {A = ℕ} (f == g) 1 0 ≡ 1 = ap (λ (b : Bool). cond {A = ℕ} b 1 0) (eq-eqb f g same) in
                 let was : times g lru ≡ 1 = subst (λ (m : ℕ). times m lru ≡ 1) same (count_home p f here) in
-                let own : q ≡ p = ap (page_in tenants) (sym same) ∙ homed.tenants_are p f here in
+                let own : q ≡ p = ap (tenant_in tenants) (sym same) ∙ homed.tenants_are p f here in
                 let gone : home (e ∷ h) q ≡ None = ap (home (e ∷ h)) own ∙ homes_are p ∙ ap (λ (b : Bool). cond b None (home h p)) (same_self p) in
                 let none : cond {A = ℕ} (is_in_frame (e ∷ h) g q) 1 0 ≡ 0 = ap (λ (o : Option ℕ). cond {A = ℕ} (is_frame o g) 1 0) gone in
                 omega (arith, went, one, was, none)

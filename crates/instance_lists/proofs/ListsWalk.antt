@@ -21,7 +21,7 @@ use Rattle.trail.specs.Order.{order}
 use Rattle.trail.specs.Victim.{from_the_tail}
 use Rattle.trail.specs.History.{home}
 use Rattle.instance_lists.specs.Ledger.{IsVacant}
-use Rattle.instance_lists.specs.KeptLists.{AreKept, KeepsHomes, KeepsOrder, Absent, in_turn, page_in}
+use Rattle.instance_lists.specs.KeptLists.{AreKept, KeepsHomes, KeepsOrder, Absent, in_turn, tenant_in}
 use Rattle.instance_lists.specs.Walk.{AreOrderly, is_in_frame, first_home, next_home, part_of}
 use Rattle.instance_lists.proofs.Dirt.{same_is}
 use Rattle.instance_lists.proofs.ListsFlush.{logged_of, count_is}
@@ -165,19 +165,19 @@ module _ (c : Config) (h : List Entry) (homes : PageId → Option ℕ) (tenants 
   has_all None there = tt
   has_all (Some f) there = is_listed c h homes tenants lru homed k there.0 f there.1
 
-  each_home : All (λ x. home h (page_in tenants x.key) ≡ Some x.key) lru.order.listed
+  each_home : All (λ x. home h (tenant_in tenants x.key) ≡ Some x.key) lru.order.listed
   each_home i d inside = listed_home c h homes tenants lru homed k i d inside
 
   pub walk_is : (after : Option ℕ) → IfSome after (λ f. (p : PageId) × (home h p ≡ Some f)) → next_up after lru.order.listed ≡ next_home h after (from_the_tail c h)
   walk_is after there =
-      over after there ∙ ap (next_home h after) (append-nil (turned h (page_in tenants) lru.order.listed))
+      over after there ∙ ap (next_home h after) (append-nil (turned h (tenant_in tenants) lru.order.listed))
       ∙ ap (λ (o : Order PageId). next_home h after (reverse (map (λ (x : Listed PageId). x.key) o.listed))) (sym k.order_is)
     where
-      over : (after : Option ℕ) → IfSome after (λ f. (p : PageId) × (home h p ≡ Some f)) → next_up after lru.order.listed ≡ next_home h after (turned h (page_in tenants) lru.order.listed ++ [])
+      over : (after : Option ℕ) → IfSome after (λ f. (p : PageId) × (home h p ≡ Some f)) → next_up after lru.order.listed ≡ next_home h after (turned h (tenant_in tenants) lru.order.listed ++ [])
       over None there = ap (pick None lru.order.listed) (none_passes lru.order.listed) ∙ pick_is (λ f. false) None lru.order.listed
-          ∙ tail_is h (page_in tenants) lru.order.listed None [] each_home refl
+          ∙ tail_is h (tenant_in tenants) lru.order.listed None [] each_home refl
       over (Some f) there = pick_is (λ m. m == f) None lru.order.listed
-          ∙ next_up_is h (page_in tenants) f lru.order.listed None [] each_home refl (count_home c h homes tenants lru homed k there.0 f there.1)
+          ∙ next_up_is h (tenant_in tenants) f lru.order.listed None [] each_home refl (count_home c h homes tenants lru homed k there.0 f there.1)
 
   listed_once : (p : PageId) → count_of (λ q. same_page q p) (order c h).listed ≡ cond {A = ℕ} (is_some (home h p)) 1 0
   listed_once p = ap (λ (o : Order PageId). count_of (λ q. same_page q p) o.listed) k.order_is ∙ by_home (home h p) refl
@@ -186,14 +186,14 @@ module _ (c : Config) (h : List Entry) (homes : PageId → Option ℕ) (tenants 
       other q f there none true same = let bad : Some f ≡ None = sym there ∙ ap (home h) (same_is q p same) ∙ none in absurd (cc)
       other q f there none false same = same
 
-      by_home : (o : Option ℕ) → home h p ≡ o → count_of (λ q. same_page q p) (map (rekeyed (page_in tenants)) lru.order.listed) ≡ cond {A = ℕ} (is_some o) 1 0
+      by_home : (o : Option ℕ) → home h p ≡ o → count_of (λ q. same_page q p) (map (rekeyed (tenant_in tenants)) lru.order.listed) ≡ cond {A = ℕ} (is_some o) 1 0
       by_home None none =
-          counts_renamed (page_in tenants) (λ q. same_page q p) (λ f. false) lru.order.listed
-          (λ i d l. other (page_in tenants (get_or lru.order.listed i d).key) _ (each_home i d l) none (same_page (page_in tenants (get_or lru.order.listed i d).key) p) refl)
+          counts_renamed (tenant_in tenants) (λ q. same_page q p) (λ f. false) lru.order.listed
+          (λ i d l. other (tenant_in tenants (get_or lru.order.listed i d).key) _ (each_home i d l) none (same_page (tenant_in tenants (get_or lru.order.listed i d).key) p) refl)
           ∙ count_none lru.order.listed
       by_home (Some f) here =
-          counts_renamed (page_in tenants) (λ q. same_page q p) (λ m. m == f) lru.order.listed
-          (λ i d l. ap (same_page (page_in tenants (get_or lru.order.listed i d).key)) (sym (homed.tenants_are p f here)) ∙ told_apart c h homes tenants lru homed k p f here i d l)
+          counts_renamed (tenant_in tenants) (λ q. same_page q p) (λ m. m == f) lru.order.listed
+          (λ i d l. ap (same_page (tenant_in tenants (get_or lru.order.listed i d).key)) (sym (homed.tenants_are p f here)) ∙ told_apart c h homes tenants lru homed k p f here i d l)
           ∙ count_home c h homes tenants lru homed k p f here
 
 module _ (c : Config) (h : List Entry) (homes : PageId → Option ℕ) (tenants : List PageId) (free : List ℕ) (hand : Option Hand) (newest : List (Option ℕ)) (flush : Flush) (lru : View) (seats : ℕ) (k : AreKept c h homes tenants free hand newest flush lru seats) where
@@ -224,7 +224,7 @@ module _ (c : Config) (h : List Entry) (homes : PageId → Option ℕ) (tenants 
   pub all_used : (o : Option ℕ) → o ≡ frame_in_turn (book c h) → o ≡ None → (f : ℕ) → f < c.frames → (p : PageId) × (home h p ≡ Some f)
   all_used o is none f below =
       let turn = front_none (in_turn hand free) (sym (next_is c h free hand k.booked) ∙ sym is ∙ none) in
-      (page_in tenants f, k.used f below (subst (λ (l : List ℕ). Absent f l) (sym turn) tt))
+      (tenant_in tenants f, k.used f below (subst (λ (l : List ℕ). Absent f l) (sym turn) tt))
 
   -- as many pages are dirty as the flush list has, and the others are clean
   pub dirty_count : length flush.listed ≡ length (part_of c h true)
@@ -233,7 +233,7 @@ module _ (c : Config) (h : List Entry) (homes : PageId → Option ℕ) (tenants 
   pub whole_count : length (part_of c h false) + length flush.listed ≡ length lru.order.listed
   whole_count =
       let tail : length (from_the_tail c h) ≡ length (order c h).listed = length-reverse (map key_in (order c h).listed) ∙ length-map (order c h).listed key_in in
-      let frames : length (order c h).listed ≡ length lru.order.listed = ap (λ (o : Order PageId). length o.listed) k.ordered.order_is ∙ length-map lru.order.listed (rekeyed (page_in tenants)) in
+      let frames : length (order c h).listed ≡ length lru.order.listed = ap (λ (o : Order PageId). length o.listed) k.ordered.order_is ∙ length-map lru.order.listed (rekeyed (tenant_in tenants)) in
       omega (arith, clean_part c h, dirty_count, tail, frames)
 
 pub home_below : (o : Option ℕ) (n : ℕ) → ((f : ℕ) → o ≡ Some f → f < n) → IfSome o (λ f. f < n)

@@ -49,9 +49,9 @@ Absent f [] = ⊤
 Absent f (g ∷ gs) = (f ≢ g) × Absent f gs
 
 -- no number is in the list twice, and each is below the bound
-abbrev pub AreFrames : ℕ → List ℕ → Type 0
-AreFrames n [] = ⊤
-AreFrames n (f ∷ fs) = (f < n) × Absent f fs × AreFrames n fs
+abbrev pub AreOnceBelow : ℕ → List ℕ → Type 0
+AreOnceBelow n [] = ⊤
+AreOnceBelow n (f ∷ fs) = (f < n) × Absent f fs × AreOnceBelow n fs
 
 -- the frames in the order in which they are taken: the one in hand, then the free ones
 abbrev pub in_turn : Option Hand → List ℕ → List ℕ
@@ -73,24 +73,24 @@ abbrev pub plain_book : Config → List ℕ → List Hand → Book
 plain_book c free hands = record { chunks = chunks_of c; area = None; free = free; withdrawn = []; hands = hands }
 
 -- the page that the frame had last
-abbrev pub page_in : List PageId → ℕ → PageId
-page_in tenants f = slice_index_or tenants f (record { space = 0; page = 0 })
+abbrev pub tenant_in : List PageId → ℕ → PageId
+tenant_in tenants f = slice_index_or tenants f (record { space = 0; page = 0 })
 
 -- a frame of the chunk that is not among these is the home of the page that it had last
 abbrev pub AreOthersUsed : Config → List Entry → List PageId → List ℕ → Type 0
-AreOthersUsed c h tenants fs = (f : ℕ) → f < c.frames → Absent f fs → home h (page_in tenants f) ≡ Some f
+AreOthersUsed c h tenants fs = (f : ℕ) → f < c.frames → Absent f fs → home h (tenant_in tenants f) ≡ Some f
 
 -- the map of homes is that of the history, and each resident page is the one that its frame had last
 pub record KeepsHomes (c : Config) (h : List Entry) (homes : PageId → Option ℕ) (tenants : List PageId) : Type 0 where
   pub homes_are : (p : PageId) → homes p ≡ home h p
   pub housed : (p : PageId) (f : ℕ) → home h p ≡ Some f → f < c.frames
-  pub tenants_are : (p : PageId) (f : ℕ) → home h p ≡ Some f → page_in tenants f ≡ p
+  pub tenants_are : (p : PageId) (f : ℕ) → home h p ≡ Some f → tenant_in tenants f ≡ p
   pub tenant_count : length tenants ≡ c.frames
 
 -- the free frames and the one in hand are those of the history, and no page's home
 pub record KeepsBook (c : Config) (h : List Entry) (free : List ℕ) (hand : Option Hand) : Type 0 where
   pub book_is : book c h ≡ plain_book c free (option_to_list hand)
-  pub distinct : AreFrames c.frames (in_turn hand free)
+  pub distinct : AreOnceBelow c.frames (in_turn hand free)
   pub taken : (p : PageId) (f : ℕ) → home h p ≡ Some f → Absent f (in_turn hand free)
 
 -- a dirty page as the flush list has it: by its home
@@ -138,8 +138,8 @@ after_making f now v = record v { order = touch ◌==◌ v.numbers f now (read_i
 pub record KeepsOrder (c : Config) (h : List Entry) (tenants : List PageId) (lru : View) : Type 0 where
   pub numbers_are : lru.numbers ≡ numbers_of c
   pub room_is : lru.room ≡ c.frames
-  pub order_is : order c h ≡ under (page_in tenants) lru.order
-  pub counted : (f : ℕ) → count_of (λ g. g == f) lru.order.listed ≡ (if is_in_frame h f (page_in tenants f) then 1 else 0)
+  pub order_is : order c h ≡ under (tenant_in tenants) lru.order
+  pub counted : (f : ℕ) → count_of (λ g. g == f) lru.order.listed ≡ (if is_in_frame h f (tenant_in tenants f) then 1 else 0)
   pub evicts : lru.order.evicts ≤ length h
 
 -- all lists, where so many frames have room in the free list

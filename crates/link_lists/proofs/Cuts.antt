@@ -2,7 +2,7 @@
 use Rattle.std.proofs.Common.{◌≡◌, ◌∙◌, ◌<◌, ◌≤◌, ℕ, List, [], ◌∷◌, ◌++◌, inl, inr, Option, Some, None, refl, sym, ap, subst, arith}
 use Rattle.std.proofs.lemmas.Bool.{cases_eq}
 use Rattle.link_lists.specs.declared.nodes.Link.{Link}
-use Rattle.link_lists.specs.Grid.{Grid, link_of, times, Leaves, IsWritten}
+use Rattle.link_lists.specs.Grid.{Grid, link_of, times, Leaves, IsLinked}
 use Rattle.link_lists.specs.Chains.{Ends, first_or, last_or, first, last, AreLinked, IsChain}
 use Rattle.link_lists.specs.Cuts.{IsCut}
 use Rattle.link_lists.proofs.Times.{times-cons, times-append, times_at, times_past}
@@ -33,7 +33,7 @@ last-append p (x ∷ xs) ys = last-append (Some x) xs ys
 
 -- the first part leads elsewhere, by a write at its last node
 pub cut_next : (old new : Grid) (c : Ends) (front back : List ℕ) (a b to : Option ℕ) (n : ℕ) → IsCut old c front back a b → Some n ≡ last front
-    → IsWritten old new c.pair n (record { prev = (link_of old c.pair n).prev; next = to }) → IsCut new c front back to b
+    → IsLinked old new c.pair n (record { prev = (link_of old c.pair n).prev; next = to }) → IsCut new c front back to b
 cut_next old new c [] back a b to n k e write = absurd (cc)
 cut_next old new c (x ∷ xs) back a b to n k e write =
     let there = times_last x xs n (sym e) in
@@ -54,11 +54,11 @@ cut_head g c (x ∷ xs) back a b to k e = absurd (last_some x xs (sym e))
 
 -- the second part leads back elsewhere, by a write at its first node
 pub cut_prev : (old new : Grid) (c : Ends) (front back : List ℕ) (a b to : Option ℕ) (n : ℕ) → IsCut old c front back a b → Some n ≡ first back
-    → IsWritten old new c.pair n (record { prev = to; next = (link_of old c.pair n).next }) → IsCut new c front back a to
+    → IsLinked old new c.pair n (record { prev = to; next = (link_of old c.pair n).next }) → IsCut new c front back a to
 cut_prev old new c front [] a b to n k e write = absurd (cc)
 cut_prev old new c front (x ∷ xs) a b to n k e write =
     let same : n ≡ x = cc in
-    let here = subst (λ i. IsWritten old new c.pair i (record { prev = to; next = (link_of old c.pair i).next })) same write in
+    let here = subst (λ i. IsLinked old new c.pair i (record { prev = to; next = (link_of old c.pair i).next })) same write in
     let none : times x front ≡ 0 = omega (arith, k.once x, times-append x front (x ∷ xs), times_at x xs) in
     record {
       pair = omega (arith, k.pair, write.leaves.pairs);
@@ -142,7 +142,7 @@ once_more y front back x once none = elim (cases_eq x y) [
 
 -- a cut that leads to a node on both sides is joined by a write at that node
 pub cut_with : (old new : Grid) (c : Ends) (front back : List ℕ) (x : ℕ) → x < old.nodes → IsCut old c front back (Some x) (Some x)
-    → IsWritten old new c.pair x (record { prev = last front; next = first back }) → times x (front ++ back) ≡ 0 → IsChain new c (front ++ x ∷ back)
+    → IsLinked old new c.pair x (record { prev = last front; next = first back }) → times x (front ++ back) ≡ 0 → IsChain new c (front ++ x ∷ back)
 cut_with old new c front back x within k write none =
     let parts = times-append x front back in
     let stays : (p : Option ℕ) (xs : List ℕ) (b : Option ℕ) → times x xs ≡ 0 → AreLinked old c.pair p xs b → AreLinked new c.pair p xs b

@@ -5,7 +5,7 @@ use Rattle.std.proofs.lemmas.Map.Steps.{length-le_from_distinct_below}
 use Rattle.std.proofs.lemmas.Bool.{cases_eq, ne_eqb}
 use Rattle.link_lists.specs.declared.nodes.Link.{Link}
 use Rattle.link_lists.specs.Grid.{Grid, times}
-use Rattle.link_lists.specs.Chains.{Ends, first, AreLinked, IsChain, Has, followed, list_of}
+use Rattle.link_lists.specs.Chains.{Ends, first, AreLinked, IsChain, StandsIn, followed, list_of}
 use Rattle.link_lists.proofs.Times.{times-cons, times_at, times_past, placed}
 use Rattle.link_lists.proofs.Written.{linked_within}
 
@@ -42,7 +42,7 @@ followed_is g pair p (x ∷ xs) (suc n) le k =
 pub found : (g : Grid) (c : Ends) (xs : List ℕ) → IsChain g c xs → list_of g c ≡ xs
 found g c xs k = ap (λ at. followed g c.pair g.nodes at) k.head ∙ followed_is g c.pair None xs g.nodes (few g c xs k) k.linked
 
-pub present : (g : Grid) (c : Ends) (xs : List ℕ) (x : ℕ) → IsChain g c xs → 1 ≤ times x xs → Has g c x
+pub present : (g : Grid) (c : Ends) (xs : List ℕ) (x : ℕ) → IsChain g c xs → 1 ≤ times x xs → StandsIn g c x
 present g c xs x k there = let t = placed x xs there in (t.0, t.1, subst (λ ys. IsChain g c ys) t.2 k)
 
 pub exists : (g : Grid) (c : Ends) (xs : List ℕ) (x : ℕ) → IsChain g c xs → 1 ≤ times x xs → x < g.nodes

@@ -6,8 +6,8 @@ use Rattle.std.proofs.lemmas.Nat.{same_from_place}
 use Rattle.std.proofs.Math.Nat.{max-eq_right}
 use Rattle.std.proofs.lemmas.Bool.{cases_lt}
 use Rattle.link_lists.specs.declared.nodes.Link.{Link}
-use Rattle.link_lists.specs.Grid.{Grid, unlinked, times, IsWritten}
-use Rattle.link_lists.specs.Chains.{IsGrown}
+use Rattle.link_lists.specs.Grid.{Grid, unlinked, times, IsLinked}
+use Rattle.link_lists.specs.Chains.{GrewOnly}
 use Rattle.link_lists.proofs.Times.{times_at}
 use Rattle.link_lists.proofs.Written.{linked_same}
 
@@ -20,10 +20,10 @@ elsewhere pair node pairs q y w v (inr none) = λ e.
     absurd (omega (arith, none, z, times_at node []))
 
 pub written_at : (g new : Grid) (pair node place : ℕ) (link : Link) → new ≡ record g { links = set g.links place link } → pair < g.pairs → place ≡ node * g.pairs + pair → place < length g.links
-    → IsWritten g new pair node link
+    → IsLinked g new pair node link
 written_at g new pair node place link is w at within =
-    subst (λ (h : Grid). IsWritten g h pair node link) (sym is)
-    (subst (λ i. IsWritten g (record g { links = set g.links i link }) pair node link) (sym at) (record {
+    subst (λ (h : Grid). IsLinked g h pair node link) (sym is)
+    (subst (λ i. IsLinked g (record g { links = set g.links i link }) pair node link) (sym at) (record {
       here = get_or-set_same g.links (node * g.pairs + pair) link unlinked (subst (λ i. i < length g.links) at within);
       leaves = record {
         pairs = refl;
@@ -45,8 +45,8 @@ read_more links k i = elim (cases_lt i (length links)) [
   | inr g ↦ read_behind links k i g
 ]
 
-pub grown_by : (g new : Grid) (n k : ℕ) → g.nodes < n → new ≡ record { pairs = g.pairs; nodes = n; links = g.links ++ replicate k unlinked } → IsGrown g new n
-grown_by g new n k more is = subst (λ (h : Grid). IsGrown g h n) (sym is) (record {
+pub grown_by : (g new : Grid) (n k : ℕ) → g.nodes < n → new ≡ record { pairs = g.pairs; nodes = n; links = g.links ++ replicate k unlinked } → GrewOnly g new n
+grown_by g new n k more is = subst (λ (h : Grid). GrewOnly g h n) (sym is) (record {
   pairs = refl;
   nodes = sym (max-eq_right (omega (arith, more)));
   chains = λ c xs chain. record {

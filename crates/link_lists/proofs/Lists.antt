@@ -22,7 +22,7 @@ module _ (g : Grid) (c : Ends) (xs : List ℕ) (is : IsChain g c xs) where
     fits = fits;
   }
 
-module _ (a : Inside) (l : IndexList) (is : view_of a ≡ l) (k : IsKept a) where
+module _ {a : Inside} {l : IndexList} (is : view_of a ≡ l) (k : IsKept a) where
   pub room_is : a.nodes.nodes ≡ l.room
   room_is = ap (λ (l : IndexList). l.room) is
 
@@ -32,21 +32,21 @@ module _ (a : Inside) (l : IndexList) (is : view_of a ≡ l) (k : IsKept a) wher
   pub len_is : a.len ≡ length l.items
   len_is = k.len ∙ ap (λ (l : IndexList). length l.items) is
 
-  pub has : (x : ℕ) → Has l x → chain.Has a.nodes a.chain x
+  pub has : (x : ℕ) → Has l x → chain.StandsIn a.nodes a.chain x
   has x there = present a.nodes a.chain l.items x chain_is there
 
   -- the chain where the list is cut so
-  pub cut : (xs : List ℕ) → l.items ≡ xs → IsChain a.nodes a.chain xs
-  cut xs e = subst (λ (xs : List ℕ). IsChain a.nodes a.chain xs) e chain_is
+  pub cut : {xs : List ℕ} → l.items ≡ xs → IsChain a.nodes a.chain xs
+  cut e = subst (λ (xs : List ℕ). IsChain a.nodes a.chain xs) e chain_is
 
   -- where one more is in the list, its length fits
-  pub longer : (g : Grid) (c : Ends) (xs : List ℕ) → IsChain g c xs → length xs ≡ length l.items + 1 → g.nodes ≡ a.nodes.nodes → a.len + 1 < 2 ^ 32
-  longer g c xs more len nodes = omega (arith, few g c xs more, len, nodes, k.fits, len_is)
+  pub longer : {g : Grid} {c : Ends} {xs : List ℕ} → IsChain g c xs → length xs ≡ length l.items + 1 → g.nodes ≡ a.nodes.nodes → a.len + 1 < 2 ^ 32
+  longer {g} {c} {xs} more len nodes = omega (arith, few g c xs more, len, nodes, k.fits, len_is)
 
   -- what a call leaves that adds no node
-  module _ (g : Grid) (c : Ends) (xs : List ℕ) (chain : IsChain g c xs) (nodes : g.nodes ≡ a.nodes.nodes) where
+  module _ {g : Grid} {c : Ends} {xs : List ℕ} (chain : IsChain g c xs) (nodes : g.nodes ≡ a.nodes.nodes) where
     pub seen_then : ◌≡◌ {A = IndexList} (record { items = list_of g c; room = g.nodes }) (record l { items = xs })
     seen_then = seen g c xs chain l.room (nodes ∙ room_is)
 
-    pub kept_then : (len : ℕ) → len ≡ length xs → IsKept (record { nodes = g; chain = c; len = len })
-    kept_then len same = kept g c xs chain len same (omega (arith, nodes, k.fits))
+    pub kept_then : {len : ℕ} → len ≡ length xs → IsKept (record { nodes = g; chain = c; len = len })
+    kept_then {len} same = kept g c xs chain len same (omega (arith, nodes, k.fits))

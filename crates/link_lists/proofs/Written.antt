@@ -2,8 +2,8 @@
 use Rattle.std.proofs.Common.{◌≡◌, ◌≢◌, ◌∙◌, ◌<◌, ◌≤◌, ℕ, List, [], ◌∷◌, ◌⊎◌, inl, inr, Option, Some, None, refl, ap, subst, arith}
 use Rattle.std.proofs.lemmas.Bool.{cases_eq}
 use Rattle.link_lists.specs.declared.nodes.Link.{Link}
-use Rattle.link_lists.specs.Grid.{Grid, link_of, times, Leaves, IsWritten}
-use Rattle.link_lists.specs.Chains.{last_or, AreLinked, IsApart, Keeps}
+use Rattle.link_lists.specs.Grid.{Grid, link_of, times, Leaves, IsLinked}
+use Rattle.link_lists.specs.Chains.{last_or, AreLinked, IsApart, KeepsOthers}
 use Rattle.link_lists.proofs.Times.{times-cons, times_at, times_past}
 
 -- the last of a list stands in it
@@ -67,7 +67,7 @@ leaves_more pair old new few many h l = record { pairs = l.pairs; nodes = l.node
     each y (inr none) = inr (h y none)
 
 -- chains of other pairs, and those of other nodes, stay
-pub keeps_from : (pair : ℕ) (old new : Grid) (touched : List ℕ) → Leaves pair old new touched → Keeps pair old new touched
+pub keeps_from : (pair : ℕ) (old new : Grid) (touched : List ℕ) → Leaves pair old new touched → KeepsOthers pair old new touched
 keeps_from pair old new touched l = record {
   pairs = l.pairs;
   nodes = l.nodes;
@@ -82,11 +82,11 @@ keeps_from pair old new touched l = record {
 
 -- the last of a list leads to another node
 pub linked_last : (old new : Grid) (pair : ℕ) (p : Option ℕ) (x : ℕ) (xs : List ℕ) (b to : Option ℕ) (n : ℕ) → pair < old.pairs → last_or (Some x) xs ≡ Some n
-    → IsWritten old new pair n (record { prev = (link_of old pair n).prev; next = to }) → ((y : ℕ) → times y (x ∷ xs) ≤ 1)
+    → IsLinked old new pair n (record { prev = (link_of old pair n).prev; next = to }) → ((y : ℕ) → times y (x ∷ xs) ≤ 1)
     → AreLinked old pair p (x ∷ xs) b → AreLinked new pair p (x ∷ xs) to
 linked_last old new pair p x [] b to n w e write once k =
     let same : n ≡ x = cc in
-    let here = subst (λ i. IsWritten old new pair i (record { prev = (link_of old pair i).prev; next = to })) same write in (
+    let here = subst (λ i. IsLinked old new pair i (record { prev = (link_of old pair i).prev; next = to })) same write in (
       omega (arith, k.0, write.leaves.nodes),
       here.here ∙ ap (λ (l : Link). let r : Link = record { prev = l.prev; next = to } in r) k.1,
       tt,
@@ -101,7 +101,7 @@ linked_last old new pair p x (y ∷ ys) b to n w e write once k =
 
 -- the first of a list leads back to another node
 pub linked_first : (old new : Grid) (pair : ℕ) (b : Option ℕ) (x : ℕ) (xs : List ℕ) (e to : Option ℕ) → pair < old.pairs
-    → IsWritten old new pair x (record { prev = to; next = (link_of old pair x).next }) → ((y : ℕ) → times y (x ∷ xs) ≤ 1)
+    → IsLinked old new pair x (record { prev = to; next = (link_of old pair x).next }) → ((y : ℕ) → times y (x ∷ xs) ≤ 1)
     → AreLinked old pair b (x ∷ xs) e → AreLinked new pair to (x ∷ xs) e
 linked_first old new pair b x xs e to w write once k =
     let none : times x xs ≡ 0 = omega (arith, once x, times_at x xs) in (
@@ -112,19 +112,19 @@ linked_first old new pair b x xs e to w write once k =
 
 -- the link that was read and changed, seen from outside the chain
 pub next_written : (old new : Grid) (i pair n : ℕ) (link : Link) (to : Option ℕ) → i ≡ pair → link ≡ link_of old i n
-    → IsWritten old new i n (record { prev = link.prev; next = to }) → IsWritten old new pair n (record { prev = (link_of old pair n).prev; next = to })
+    → IsLinked old new i n (record { prev = link.prev; next = to }) → IsLinked old new pair n (record { prev = (link_of old pair n).prev; next = to })
 next_written old new i pair n link to same read write =
-    subst (λ j. IsWritten old new j n (record { prev = (link_of old j n).prev; next = to })) same (subst (λ (l : Link). IsWritten old new i n (record { prev = l.prev; next = to })) read write)
+    subst (λ j. IsLinked old new j n (record { prev = (link_of old j n).prev; next = to })) same (subst (λ (l : Link). IsLinked old new i n (record { prev = l.prev; next = to })) read write)
 
 pub prev_written : (old new : Grid) (i pair n : ℕ) (link : Link) (to : Option ℕ) → i ≡ pair → link ≡ link_of old i n
-    → IsWritten old new i n (record { prev = to; next = link.next }) → IsWritten old new pair n (record { prev = to; next = (link_of old pair n).next })
+    → IsLinked old new i n (record { prev = to; next = link.next }) → IsLinked old new pair n (record { prev = to; next = (link_of old pair n).next })
 prev_written old new i pair n link to same read write =
-    subst (λ j. IsWritten old new j n (record { prev = to; next = (link_of old j n).next })) same (subst (λ (l : Link). IsWritten old new i n (record { prev = to; next = l.next })) read write)
+    subst (λ j. IsLinked old new j n (record { prev = to; next = (link_of old j n).next })) same (subst (λ (l : Link). IsLinked old new i n (record { prev = to; next = l.next })) read write)
 
-pub link_written : (old new : Grid) (i pair n : ℕ) (p q b d : Option ℕ) → i ≡ pair → p ≡ q → b ≡ d → IsWritten old new i n (record { prev = p; next = b }) → IsWritten old new pair n (record { prev = q; next = d })
+pub link_written : (old new : Grid) (i pair n : ℕ) (p q b d : Option ℕ) → i ≡ pair → p ≡ q → b ≡ d → IsLinked old new i n (record { prev = p; next = b }) → IsLinked old new pair n (record { prev = q; next = d })
 link_written old new i pair n p q b d same prev next write =
-    subst (λ j. IsWritten old new j n (record { prev = q; next = d })) same
-    (subst (λ k. IsWritten old new i n (record { prev = k; next = d })) prev (subst (λ k. IsWritten old new i n (record { prev = p; next = k })) next write))
+    subst (λ j. IsLinked old new j n (record { prev = q; next = d })) same
+    (subst (λ k. IsLinked old new i n (record { prev = k; next = d })) prev (subst (λ k. IsLinked old new i n (record { prev = p; next = k })) next write))
 
 -- two steps that change links of a chain, and one that writes those of a node
 pub leaves_joined : (pair node : ℕ) (a b c d : Grid) (xs : List ℕ) → Leaves pair a b xs → Leaves pair b c xs → Leaves pair c d (node ∷ []) → Leaves pair a d (node ∷ xs)

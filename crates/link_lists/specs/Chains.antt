@@ -52,8 +52,8 @@ abbrev pub list_of : Grid → Ends → List ℕ
 list_of g c = followed g c.pair g.nodes c.head
 
 -- the node stands in the chain
-abbrev pub Has : Grid → Ends → ℕ → Type 0
-Has g c node = (front back : List ℕ) × IsChain g c (front ++ node ∷ back)
+abbrev pub StandsIn : Grid → Ends → ℕ → Type 0
+StandsIn g c node = (front back : List ℕ) × IsChain g c (front ++ node ∷ back)
 
 -- the chain is a list in which the node doesn't stand
 abbrev pub Lacks : Grid → Ends → ℕ → Type 0
@@ -64,14 +64,14 @@ abbrev pub IsApart : List ℕ → List ℕ → Type 0
 IsApart xs ys = (x : ℕ) → 1 ≤ times x xs → times x ys ≡ 0
 
 -- every chain that has another pair, or shares none of these nodes, is the list that it was
-pub record Keeps (pair : ℕ) (old new : Grid) (touched : List ℕ) : Type 0 where
+pub record KeepsOthers (pair : ℕ) (old new : Grid) (touched : List ℕ) : Type 0 where
   pub pairs : new.pairs ≡ old.pairs
   pub nodes : new.nodes ≡ old.nodes
   pub chains : (c : Ends) (xs : List ℕ) → IsChain old c xs → (c.pair ≢ pair) ⊎ IsApart xs touched
       → IsChain new c xs
 
 -- there are `n` nodes now, or as many as before where those were more, and every chain is the list that it was
-pub record IsGrown (old new : Grid) (n : ℕ) : Type 0 where
+pub record GrewOnly (old new : Grid) (n : ℕ) : Type 0 where
   pub pairs : new.pairs ≡ old.pairs
   pub nodes : new.nodes ≡ max old.nodes n
   pub chains : (c : Ends) (xs : List ℕ) → IsChain old c xs → IsChain new c xs

@@ -28,6 +28,6 @@ pub record Leaves (pair : ℕ) (old new : Grid) (touched : List ℕ) : Type 0 wh
       → link_of new q y ≡ link_of old q y
 
 -- this node has these links in this pair now, and no other link was changed
-pub record IsWritten (old new : Grid) (pair node : ℕ) (link : Link) : Type 0 where
+pub record IsLinked (old new : Grid) (pair node : ℕ) (link : Link) : Type 0 where
   pub here : link_of new pair node ≡ link
   pub leaves : Leaves pair old new (node ∷ [])

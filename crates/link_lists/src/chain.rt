@@ -1,7 +1,7 @@
 //! A chain: a list of nodes, by its two ends.
 ghost use Rattle.std.specs.Prelude.{◌≡◌, ◌<◌, ◌++◌, ◌∷◌, ℕ, List, [], Option, None};
 ghost use Rattle.link_lists.specs.Grid.{Grid, Leaves, times};
-ghost use Rattle.link_lists.specs.Chains.{IsChain, Has, Lacks, Keeps, first, last};
+ghost use Rattle.link_lists.specs.Chains.{IsChain, StandsIn, Lacks, KeepsOthers, first, last};
 ghost use Rattle.link_lists.specs.Cuts.{IsCut};
 
 use crate::nodes::{Link, Nodes};
@@ -46,7 +46,7 @@ impl Chain {
         ensures list { (xs : List ℕ) → IsChain nodes.old self.old xs
             → IsChain nodes.new self.new (node ∷ xs) }
         ensures others { (xs : List ℕ) → IsChain nodes.old self.old xs
-            → Keeps self.old.pair nodes.old nodes.new (node ∷ xs) }
+            → KeepsOthers self.old.pair nodes.old nodes.new (node ∷ xs) }
         ensures pair { self.new.pair ≡ self.old.pair }
     {
         let head = self.head;
@@ -60,7 +60,7 @@ impl Chain {
         ensures list { (xs : List ℕ) → IsChain nodes.old self.old xs
             → IsChain nodes.new self.new (xs ++ node ∷ []) }
         ensures others { (xs : List ℕ) → IsChain nodes.old self.old xs
-            → Keeps self.old.pair nodes.old nodes.new (node ∷ xs) }
+            → KeepsOthers self.old.pair nodes.old nodes.new (node ∷ xs) }
         ensures pair { self.new.pair ≡ self.old.pair }
     {
         let tail = self.tail;
@@ -70,12 +70,12 @@ impl Chain {
     /// Puts a node directly before `at`.
     pub fn insert_before(&mut self, nodes: &mut Nodes, at: u32, node: u32)
         requires exists { node < nodes.old.nodes }
-        requires present { Has nodes.old self.old at }
+        requires present { StandsIn nodes.old self.old at }
         requires absent { Lacks nodes.old self.old node }
         ensures list { (front back : List ℕ) → IsChain nodes.old self.old (front ++ at ∷ back)
             → IsChain nodes.new self.new (front ++ node ∷ at ∷ back) }
         ensures others { (xs : List ℕ) → IsChain nodes.old self.old xs
-            → Keeps self.old.pair nodes.old nodes.new (node ∷ xs) }
+            → KeepsOthers self.old.pair nodes.old nodes.new (node ∷ xs) }
         ensures pair { self.new.pair ≡ self.old.pair }
     {
         let link = nodes.link(self.pair, at);
@@ -84,11 +84,11 @@ impl Chain {
 
     /// Takes a node out.
     pub fn unlink(&mut self, nodes: &mut Nodes, node: u32)
-        requires present { Has nodes.old self.old node }
+        requires present { StandsIn nodes.old self.old node }
         ensures list { (front back : List ℕ) → IsChain nodes.old self.old (front ++ node ∷ back)
             → IsChain nodes.new self.new (front ++ back) }
         ensures others { (xs : List ℕ) → IsChain nodes.old self.old xs
-            → Keeps self.old.pair nodes.old nodes.new xs }
+            → KeepsOthers self.old.pair nodes.old nodes.new xs }
         ensures pair { self.new.pair ≡ self.old.pair }
     {
         let link = nodes.link(self.pair, node);
@@ -99,12 +99,12 @@ impl Chain {
     /// Puts `new` in the place of `old`, which is then in the chain no more.
     pub fn replace(&mut self, nodes: &mut Nodes, old: u32, new: u32)
         requires exists { new < nodes.old.nodes }
-        requires present { Has nodes.old self.old old }
+        requires present { StandsIn nodes.old self.old old }
         requires absent { Lacks nodes.old self.old new }
         ensures list { (front back : List ℕ) → IsChain nodes.old self.old (front ++ old ∷ back)
             → IsChain nodes.new self.new (front ++ new ∷ back) }
         ensures others { (xs : List ℕ) → IsChain nodes.old self.old xs
-            → Keeps self.old.pair nodes.old nodes.new (new ∷ xs) }
+            → KeepsOthers self.old.pair nodes.old nodes.new (new ∷ xs) }
         ensures pair { self.new.pair ≡ self.old.pair }
     {
         let link = nodes.link(self.pair, old);
@@ -127,7 +127,7 @@ impl Chain {
 
     /// The node directly before this one; `None` exactly where it is the first.
     pub fn prev(&self, nodes: &Nodes, node: u32) -> Option<u32>
-        requires present { Has nodes.now self.now node }
+        requires present { StandsIn nodes.now self.now node }
         ensures { (front back : List ℕ) → IsChain nodes.now self.now (front ++ node ∷ back)
             → result ≡ last front }
     {
@@ -136,7 +136,7 @@ impl Chain {
 
     /// The node directly behind this one; `None` exactly where it is the last.
     pub fn next(&self, nodes: &Nodes, node: u32) -> Option<u32>
-        requires present { Has nodes.now self.now node }
+        requires present { StandsIn nodes.now self.now node }
         ensures { (front back : List ℕ) → IsChain nodes.now self.now (front ++ node ∷ back)
             → result ≡ first back }
     {

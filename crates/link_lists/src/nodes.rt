@@ -1,7 +1,7 @@
 //! The nodes: which nodes there are, and the two neighbours of each in every pair.
 ghost use Rattle.std.specs.Prelude.{◌≡◌, ◌<◌, ◌≤◌, ◌+◌, ◌*◌, [], length, IsOk, OnOk, OnErr};
-ghost use Rattle.link_lists.specs.Grid.{link_of, IsWritten};
-ghost use Rattle.link_lists.specs.Chains.{IsGrown};
+ghost use Rattle.link_lists.specs.Grid.{link_of, IsLinked};
+ghost use Rattle.link_lists.specs.Chains.{GrewOnly};
 
 use std::alloc::Global;
 use std::marker::Model;
@@ -52,7 +52,7 @@ impl Nodes {
     /// Makes `n` nodes in all, where there aren't as many yet: else no memory is taken. All chains stay as they are, and no new node
     /// is in one.
     pub fn grow(&mut self, n: u32) -> Result<(), OutOfMemory>
-        ensures grown { OnOk result (IsGrown self.old self.new n) }
+        ensures grown { OnOk result (GrewOnly self.old self.new n) }
         ensures kept { OnErr result (self.new ≡ self.old) }
         ensures had { n ≤ self.old.nodes → IsOk result }
     {
@@ -92,7 +92,7 @@ impl Nodes {
     pub(crate) fn put(&mut self, pair: u32, node: u32, link: Link)
         requires pair { pair < self.old.pairs }
         requires node { node < self.old.nodes }
-        ensures { IsWritten self.old self.new pair node link }
+        ensures { IsLinked self.old self.new pair node link }
     {
         let place = self.place(pair, node);
         self.links[place] = link;

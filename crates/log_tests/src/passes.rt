@@ -1,12 +1,18 @@
 //! Passes of one log.
 ghost use Rattle.std.specs.Prelude.{◌≡◌, IfOk};
 
-use crate::changes::{LOG, SPANS, create_draft, put_draft};
+use crate::changes::{LOG, SPANS, create_draft, put, put_draft};
 use redo_log::{Redo, RedoPass, StartCause};
-use redo_mark::{CoverErr, LogSpent, RedoEnd, RedoMemory, Span};
+use redo_mark::{CoverErr, LogSpent, RedoDisk, RedoEnd, RedoMemory, Span, read_change};
 use std::alloc::Global;
+use std::process::Abort;
 use std::sync::Wait;
 use std::test::Fail;
+use std::thread;
+use std::thread::Threads;
+
+/// How many records each of two threads appends.
+const ROUNDS: u64 = 20;
 
 /// A log from LSN 8192 on that holds these bytes, on a device of which these calls are to fail.
 fn log_of<W: Wait>(
@@ -155,5 +161,90 @@ fn a_log_is_spent_at_the_last_lsn(rt: HostRuntime) -> Result<(), Fail> {
         Ok(_) => assert!(rt; false, "a log was opened above the last LSN"),
         Err(error) => assert_eq!(rt; error.cause, StartCause::LogSpent { end: 22 }),
     }
+    Ok(())
+}
+
+/// Appends records of this byte and covers each. It answers their spans, fewer where it found no memory.
+fn work<R: RedoDisk, W: Wait>(
+    rt: &W,
+    redo: &Redo<R>,
+    mut pass: RedoPass,
+    alloc: Global,
+    byte: u8,
+) -> (RedoPass, Vec<Span>)
+    requires { pass.log ≡ redo.now.log }
+    ensures { result.0.log ≡ redo.entry.now.log }
+{
+    let mut spans = Vec::new(alloc);
+    for _ in 0..ROUNDS {
+        let Ok(draft) = put_draft(alloc, byte) else {
+            return (pass, spans);
+        };
+        let Ok(span) = redo.append(rt, &mut pass, draft) else {
+            return (pass, spans);
+        };
+        if redo.cover(rt, &mut pass, span.end).is_err() || spans.push(span).is_err() {
+            return (pass, spans);
+        }
+    }
+    (pass, spans)
+}
+
+/// Two threads append and cover side by side.
+fn side_by_side<R: RedoDisk, W: Threads + Wait + Sync>(
+    rt: &W,
+    redo: &Redo<R>,
+    alloc: Global,
+    first: RedoPass,
+    second: RedoPass,
+) -> ((RedoPass, Vec<Span>), (RedoPass, Vec<Span>))
+    requires { (first.log ≡ redo.now.log) × (second.log ≡ redo.now.log) }
+    ensures { (result.0.0.log ≡ redo.entry.now.log) × (result.1.0.log ≡ redo.entry.now.log) }
+{
+    thread::join(
+        rt,
+        move ||
+            requires { first.log ≡ redo.now.log }
+            ensures { result.0.log ≡ redo.entry.now.log }
+        { work(rt, redo, first, alloc, 0x11) },
+        move ||
+            requires { second.log ≡ redo.now.log }
+            ensures { result.0.log ≡ redo.entry.now.log }
+        { work(rt, redo, second, alloc, 0x22) },
+    )
+}
+
+/// Each span has a record of this byte on the device.
+fn check(
+    rt: &impl Abort,
+    alloc: Global,
+    kept: &[u8],
+    spans: &[Span],
+    byte: u8,
+) -> Result<(), Fail> {
+    assert_eq!(rt; spans.len() as u64, ROUNDS);
+    for span in spans {
+        assert!(rt; 8192 <= span.start && span.start < 1 << 63);
+        let at = (span.start - 8192) as usize;
+        assert!(rt; at <= kept.len());
+        assert_eq!(rt;
+            read_change(alloc, &kept[at..], span.start)?,
+            (put(alloc, byte)?, *span)
+        );
+    }
+    Ok(())
+}
+
+/// Each record of two threads stands where its span says.
+#[test]
+fn two_threads_share_a_log(rt: HostRuntime) -> Result<(), Fail> {
+    let alloc = rt.alloc();
+    let (redo, mut first) = log_of(&rt, alloc, &[], &[])?;
+    let second = redo.pass(&mut first);
+    let ((one, firsts), (two, seconds)) = side_by_side(&rt, &redo, alloc, first, second);
+    let left = close(&rt, alloc, redo, one, two)?;
+    check(&rt, alloc, left.disk.kept(), firsts.as_slice(), 0x11)?;
+    check(&rt, alloc, left.disk.kept(), seconds.as_slice(), 0x22)?;
+    assert_eq!(rt; (left.end, left.durable), (9072, 9072));
     Ok(())
 }

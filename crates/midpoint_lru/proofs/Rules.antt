@@ -7,12 +7,12 @@ use Rattle.page_ids.specs.Midpoint.{Listed, Order, place_of, old_length, touch, 
 use Rattle.midpoint_lru.specs.declared.lru.Lru.TheInside.{Inside}
 use Rattle.midpoint_lru.specs.View.{View, Has}
 use Rattle.midpoint_lru.specs.Parts.{Parts, IsIn}
-use Rattle.midpoint_lru.specs.Inside.{view_of, IsKept, AreFrames}
+use Rattle.midpoint_lru.specs.Inside.{view_of, IsKept, AreListedOnce}
 use Rattle.midpoint_lru.proofs.Frames.{blank}
 
 module _ (a : Inside) (v : View) (is : view_of a ≡ v) where
-  pub frames_of : IsKept a → AreFrames v
-  frames_of kept = subst AreFrames is kept.frames
+  pub frames_of : IsKept a → AreListedOnce v
+  frames_of kept = subst AreListedOnce is kept.frames
 
   pub is_in : (f : ℕ) → Has v f → IsIn a.parts f
   is_in f h = subst (λ (w : View). Has w f) (sym is) h

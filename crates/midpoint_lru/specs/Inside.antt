@@ -13,7 +13,7 @@ view_of a = record {
 }
 
 -- Each frame is listed at most once, and only frames below the room are.
-pub record AreFrames (v : View) : Type 0 where
+pub record AreListedOnce (v : View) : Type 0 where
   pub once : (f : ℕ) → count_of (λ k. k == f) v.order.listed ≤ 1
   pub below : (f : ℕ) → v.room ≤ f → count_of (λ k. k == f) v.order.listed ≡ 0
 
@@ -22,4 +22,4 @@ pub record IsKept (a : Inside) : Type 0 where
   pub percent : a.pct ≤ 100
   pub counted : a.evicts ≤ 2 ^ 48
   pub exact : a.parts.old_len ≡ old_length (view_of a).numbers (length a.parts.listed)
-  pub frames : AreFrames (view_of a)
+  pub frames : AreListedOnce (view_of a)

@@ -12,19 +12,19 @@ use Rattle.page_ids.proofs.Basics.{pages_total}
 use Rattle.page_ids.specs.Same.{page_cmp}
 use Rattle.page_ids.specs.declared.ids.PageId.{PageId}
 use Rattle.page_disk.specs.Disks.{IsInside}
-use Rattle.page_disk.specs.MemoryDisks.{DiskMemory, Kept, whole, contents_of, kept_of, pages_of, spaces_of, bytes_in, told_of, IsKept, IsSized}
+use Rattle.page_disk.specs.MemoryDisks.{DiskMemory, KeptPage, whole, contents_of, kept_of, pages_of, spaces_of, bytes_in, told_of, IsKept, AreKeptSized}
 
 -- a page is at itself
 pub at_itself : (p : PageId) → is_at (page_cmp p) p ≡ true
 at_itself p = (eq_by_cmp_equiv pages_total).refl p
 
 -- two lists that keep the same of a page do so behind a third
-kept_behind : (front olds news : List (PageId × Kept)) (p : PageId) → kept_of olds p ≡ kept_of news p → kept_of (front ++ olds) p ≡ kept_of (front ++ news) p
+kept_behind : (front olds news : List (PageId × KeptPage)) (p : PageId) → kept_of olds p ≡ kept_of news p → kept_of (front ++ olds) p ≡ kept_of (front ++ news) p
 kept_behind [] olds news p same = same
 kept_behind (e ∷ es) olds news p same = ap (cond (is_at (page_cmp p) e.0) (Some e.1)) (kept_behind es olds news p same)
 
 -- the last page of the list goes to the map
-pub kept_moves : (told left : List (PageId × Vec ℕ)) (page : PageId) (bytes : Vec ℕ) (old new : List (PageId × Kept)) (p : PageId)
+pub kept_moves : (told left : List (PageId × Vec ℕ)) (page : PageId) (bytes : Vec ℕ) (old new : List (PageId × KeptPage)) (p : PageId)
     → told ≡ left ++ (page, bytes) ∷ [] → IsKept page (whole bytes.items) old new → kept_of (contents_of left ++ new) p ≡ kept_of (contents_of told ++ old) p
 kept_moves told left page bytes old new p split put =
     let turned : kept_of new p ≡ kept_of ((page, whole bytes.items) ∷ old) p = put p ∙ ap (λ b. cond b (Some (whole bytes.items)) (kept_of old p)) ((eq_by_cmp_equiv pages_total).symm page p) in
@@ -33,8 +33,8 @@ kept_moves told left page bytes old new p split put =
     kept_behind (contents_of left) new ((page, whole bytes.items) ∷ old) p turned ∙ ap (λ xs. kept_of xs p) (sym parts)
 
 -- a page of this size more
-pub sized_more : (size : ℕ) (page : PageId) (k : Kept) (old new : List (PageId × Kept)) → IsSized size old → length k.bytes ≡ size
-    → IsKept page k old new → IsSized size new
+pub sized_more : (size : ℕ) (page : PageId) (k : KeptPage) (old new : List (PageId × KeptPage)) → AreKeptSized size old → length k.bytes ≡ size
+    → IsKept page k old new → AreKeptSized size new
 sized_more size page k old new sized fits put p = rw (put p) (cases (is_at (page_cmp page) p))
   where
     cases : (b : Bool) → IfSome (cond b (Some k) (kept_of old p)) (λ kept. length kept.bytes ≡ size)
@@ -54,7 +54,7 @@ all_before P xs ys x split all k d below =
     subst P (ap (λ zs. get_or zs k d) split ∙ get_or-append ys (x ∷ []) d k below) (all k d long)
 
 -- every page has so many bytes
-pub bytes_sized : (size : ℕ) (k : Option Kept) → IfSome k (λ kept. length kept.bytes ≡ size) → length (bytes_in size k) ≡ size
+pub bytes_sized : (size : ℕ) (k : Option KeptPage) → IfSome k (λ kept. length kept.bytes ≡ size) → length (bytes_in size k) ≡ size
 bytes_sized size None fits = length-replicate size 0
 bytes_sized size (Some k) fits = fits
 

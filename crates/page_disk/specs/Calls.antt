@@ -7,8 +7,8 @@ abbrev pub uncalled : List ℕ → Counts
 uncalled failing = record { failing = failing; made = 0; faults = 0; wants = 0 }
 
 -- the next call is to fail
-abbrev pub IsListed : Counts → Type 0
-IsListed c = Contains c.failing (risen c.made)
+abbrev pub FailsNext : Counts → Type 0
+FailsNext c = Contains c.failing (risen c.made)
 
 -- one call more, which was answered
 abbrev pub answered : Counts → Counts
@@ -23,8 +23,8 @@ abbrev pub starved : Counts → Counts
 starved c = record c { made = risen c.made; faults = risen c.faults; wants = risen c.wants }
 
 -- one call more, of this result; it wanted no memory
-abbrev pub IsCalled : {T E : Type 0} → Counts → Counts → Result T E → Type 0
-IsCalled old new result = MatchResult result (λ _. new ≡ answered old) (λ _. new ≡ failed old)
+abbrev pub AnswersCall : {T E : Type 0} → Counts → Counts → Result T E → Type 0
+AnswersCall old new result = MatchResult result (λ _. new ≡ answered old) (λ _. new ≡ failed old)
 
 -- a fault more where the call failed, and none else
 abbrev pub CountsOnce : {T E : Type 0} → ℕ → ℕ → Result T E → Type 0

@@ -14,7 +14,7 @@ use Rattle.page_disk.specs.Disks.{DiskSeen, pages_in}
 use Rattle.page_disk.specs.Shelves.{Asked, ShelfSeen, OfferedDisk, OfferedLog}
 
 -- the bytes that are kept of a page, and whether its last write failed behind the first half
-pub record Kept : Type 0 where
+pub record KeptPage : Type 0 where
   pub bytes : List ℕ
   pub torn : Bool
 
@@ -22,7 +22,7 @@ pub record Kept : Type 0 where
 pub record DiskMemory : Type 0 where
   pub size : PageSize
   pub spaces : List (ℕ × ℕ)
-  pub kept : List (PageId × Kept)
+  pub kept : List (PageId × KeptPage)
   pub calls : Counts
   pub synced : Bool
 
@@ -31,23 +31,23 @@ abbrev pub pages_of : List (ℕ × ℕ) → ℕ → Option ℕ
 pages_of spaces space = option_map (λ s. s.1) (find (λ s. s.0 == space) spaces)
 
 -- what is kept of a page
-abbrev pub kept_of : List (PageId × Kept) → PageId → Option Kept
+abbrev pub kept_of : List (PageId × KeptPage) → PageId → Option KeptPage
 kept_of kept p = lookup (is_at (page_cmp p)) kept
 
 -- this is kept of the page, and of all others the same as before
-abbrev pub IsKept : PageId → Kept → List (PageId × Kept) → List (PageId × Kept) → Type 0
+abbrev pub IsKept : PageId → KeptPage → List (PageId × KeptPage) → List (PageId × KeptPage) → Type 0
 IsKept page now old new = (p : PageId) → kept_of new p ≡ cond (is_at (page_cmp page) p) (Some now) (kept_of old p)
 
 -- a page that was written whole
-abbrev pub whole : List ℕ → Kept
+abbrev pub whole : List ℕ → KeptPage
 whole bytes = record { bytes = bytes; torn = false }
 
 -- a page over whose bytes the first half was written
-abbrev pub half_over : List ℕ → List ℕ → Kept
+abbrev pub half_over : List ℕ → List ℕ → KeptPage
 half_over bytes before = record { bytes = take (length bytes / 2) bytes ++ drop (length bytes / 2) before; torn = true }
 
 -- pages with their bytes
-abbrev pub contents_of : List (PageId × Vec ℕ) → List (PageId × Kept)
+abbrev pub contents_of : List (PageId × Vec ℕ) → List (PageId × KeptPage)
 contents_of pages = map (λ e. (e.0, whole e.1.items)) pages
 
 -- a page whose bytes are so many
@@ -55,8 +55,8 @@ abbrev pub HasSize : ℕ → PageId × Vec ℕ → Type 0
 HasSize size e = length e.1.items ≡ size
 
 -- every page that is kept has so many bytes
-abbrev pub IsSized : ℕ → List (PageId × Kept) → Type 0
-IsSized size kept = (p : PageId) → IfSome (kept_of kept p) (λ k. length k.bytes ≡ size)
+abbrev pub AreKeptSized : ℕ → List (PageId × KeptPage) → Type 0
+AreKeptSized size kept = (p : PageId) → IfSome (kept_of kept p) (λ k. length k.bytes ≡ size)
 
 abbrev pub size_of : DiskMemory → ℕ
 size_of d = page_bytes d.size
@@ -74,12 +74,12 @@ abbrev pub synced_of : DiskMemory → Bool
 synced_of d = d.synced
 
 -- the bytes of a page of this size: zeros where none are kept
-abbrev pub bytes_in : ℕ → Option Kept → List ℕ
+abbrev pub bytes_in : ℕ → Option KeptPage → List ℕ
 bytes_in size None = replicate size 0
 bytes_in size (Some k) = k.bytes
 
 -- the same where they are told: a torn page is not
-abbrev pub told_in : ℕ → Option Kept → Option (List ℕ)
+abbrev pub told_in : ℕ → Option KeptPage → Option (List ℕ)
 told_in size None = Some (replicate size 0)
 told_in size (Some k) = if k.torn then None else Some k.bytes
 
@@ -125,5 +125,5 @@ abbrev pub shelf_seen : MemoryShelf → ShelfSeen
 shelf_seen s = record { asked = s.asked; disks = λ instance. offered_disk (disk_of s.disks instance); log = offered_log s.redo; faults = s.calls.faults }
 
 -- nothing was written to the device
-abbrev pub IsUnwritten : RedoMemory → Type 0
-IsUnwritten m = IsAsOpened m.opened (redo_seen m).told
+abbrev pub IsLogUnwritten : RedoMemory → Type 0
+IsLogUnwritten m = IsAsOpened m.opened (redo_seen m).told

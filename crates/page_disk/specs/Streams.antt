@@ -8,7 +8,7 @@ pub record ComesFrom (before after : Option (List ℕ)) (n : ℕ) (out : List �
   pub bytes : (bytes : List ℕ) → before ≡ Some bytes → (rest : List ℕ) × (after ≡ Some rest) × (bytes ≡ take n out ++ rest) × (n ≡ 0 → bytes ≡ [])
 
 -- A call that failed took nothing. What doesn't tell what it has left, tells it never.
-pub record Takes (before after : Option (List ℕ)) (result : Result ℕ Failed) (out : List ℕ) : Type 0 where
+pub record TakesPiece (before after : Option (List ℕ)) (result : Result ℕ Failed) (out : List ℕ) : Type 0 where
   pub ok : IfOk result (λ n. ComesFrom before after n out)
   pub err : OnErr result (after ≡ before)
   pub silent : before ≡ None → after ≡ None
@@ -20,7 +20,7 @@ pub record GoesTo (before after : Option (List ℕ)) (n : ℕ) (piece : List ℕ
   pub bytes : (bytes : List ℕ) → before ≡ Some bytes → after ≡ Some (bytes ++ take n piece)
 
 -- A call that failed leaves what was held. What doesn't tell what it holds, tells it never.
-pub record Puts (before after : Option (List ℕ)) (result : Result ℕ Failed) (piece : List ℕ) : Type 0 where
+pub record PutsPiece (before after : Option (List ℕ)) (result : Result ℕ Failed) (piece : List ℕ) : Type 0 where
   pub ok : IfOk result (λ n. GoesTo before after n piece)
   pub err : OnErr result (after ≡ before)
   pub silent : before ≡ None → after ≡ None

@@ -1,7 +1,7 @@
 //! Counts of faults, and how a call of a form in memory begins.
 ghost use Rattle.std.specs.Prelude.{◌≡◌, ◌≤◌, ◌↔◌, OnErr, OnOk, IsErr};
 ghost use Rattle.page_ids.specs.Faults.{IsCounted};
-ghost use Rattle.page_disk.specs.Calls.{answered, failed, IsListed};
+ghost use Rattle.page_disk.specs.Calls.{answered, failed, FailsNext};
 
 use page_ids::Failed;
 use redo_mark::Calls;
@@ -52,7 +52,7 @@ impl FaultCount {
 
 /// Begins a call of a form in memory; at a listed one it counts a fault.
 pub(crate) fn begin(calls: &mut Calls) -> Result<(), Failed>
-    ensures exact { IsErr result ↔ IsListed calls.old }
+    ensures exact { IsErr result ↔ FailsNext calls.old }
     ensures ok { OnOk result (calls.new ≡ answered calls.old) }
     ensures err { OnErr result (calls.new ≡ failed calls.old) }
     ensures cause { IsCounted calls.old.faults calls.new.faults result }

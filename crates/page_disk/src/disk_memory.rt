@@ -5,7 +5,7 @@ ghost use Rattle.page_ids.specs.Layout.{u64_at};
 ghost use Rattle.page_ids.specs.Size.{page_bytes};
 ghost use Rattle.page_ids.specs.declared.ids.PageId.{PageId};
 ghost use Rattle.page_disk.specs.Disks.{IsInside, IsSameDisk, IsOtherwiseSame, Fades};
-ghost use Rattle.page_disk.specs.Calls.{IsListed, IsCalled, answered, failed, starved, uncalled};
+ghost use Rattle.page_disk.specs.Calls.{FailsNext, AnswersCall, answered, failed, starved, uncalled};
 ghost use Rattle.page_disk.specs.MemoryDisks.{HasSize, IsKept, contents_of, kept_of, pages_of, whole, half_over};
 ghost use Rattle.page_disk.specs.MemoryDisks.{disk_seen, size_of, tells_of, told_of, bytes_of, bytes_in, spaces_of, faults_of, synced_of};
 
@@ -19,16 +19,16 @@ use std::marker::Model;
 
 /// What is kept of a page.
 #[derive(Debug, Drop)]
-struct Kept {
+struct KeptPage {
     bytes: Vec<u8>,
     /// Whether its last write failed behind the first half.
     torn: bool,
 }
 
-impl Model for Kept {
-    ghost use Rattle.page_disk.specs.MemoryDisks.{Kept};
+impl Model for KeptPage {
+    ghost use Rattle.page_disk.specs.MemoryDisks.{KeptPage};
 
-    ghost Value = { Kept };
+    ghost Value = { KeptPage };
 
     ghost view = { λ k. record { bytes = k.bytes.items; torn = k.torn } };
 }
@@ -43,7 +43,7 @@ pub struct DiskMemory {
     alloc: Global,
     size: PageSize,
     spaces: Vec<(u32, u32)>,
-    kept: BTreeMap<PageId, Kept>,
+    kept: BTreeMap<PageId, KeptPage>,
     calls: Calls,
     /// Whether nothing was written since the last sync that was done.
     synced: bool,
@@ -51,7 +51,7 @@ pub struct DiskMemory {
 
 impl Model for DiskMemory {
     ghost use Rattle.page_ids.specs.Size.{page_bytes};
-    ghost use Rattle.page_disk.specs.MemoryDisks.{DiskMemory, IsSized};
+    ghost use Rattle.page_disk.specs.MemoryDisks.{DiskMemory, AreKeptSized};
 
     ghost Value = { DiskMemory };
 
@@ -63,12 +63,12 @@ impl Model for DiskMemory {
       synced = d.synced;
     } };
 
-    ghost invariant = { λ d. IsSized (page_bytes d.size) d.kept.entries };
+    ghost invariant = { λ d. AreKeptSized (page_bytes d.size) d.kept.entries };
 }
 
 /// Keeps the bytes of a page, in place of those that were kept of it.
 fn keep(
-    pages: &mut BTreeMap<PageId, Kept>,
+    pages: &mut BTreeMap<PageId, KeptPage>,
     page: PageId,
     bytes: Vec<u8>,
     torn: bool,
@@ -77,7 +77,7 @@ fn keep(
         pages.old.entries pages.new.entries) }
     ensures err { OnErr result (pages.new.entries ≡ pages.old.entries) }
 {
-    pages.insert(page, Kept { bytes, torn })?;
+    pages.insert(page, KeptPage { bytes, torn })?;
     Ok(())
 }
 
@@ -180,10 +180,10 @@ impl PageDisk for DiskMemory {
         ensures bytes { OnOk result (IfSome (told_of self.old page) (λ bytes. out.new ≡ bytes)) }
         ensures same { IsSameDisk (disk_seen self.old) (disk_seen self.new) }
         ensures cause { IsCounted (faults_of self.old) (faults_of self.new) result }
-        ensures exact { IsErr result ↔ IsListed self.old.calls }
+        ensures exact { IsErr result ↔ FailsNext self.old.calls }
         ensures unwritten { synced_of self.new ≡ synced_of self.old }
         ensures given { OnOk result (out.new ≡ bytes_of self.old page) }
-        ensures calls { IsCalled self.old.calls self.new.calls result }
+        ensures calls { AnswersCall self.old.calls self.new.calls result }
         ensures rest { self.new ≡ record self.old { calls = self.new.calls } }
     {
         begin(&mut self.calls)?;
@@ -212,9 +212,9 @@ impl PageDisk for DiskMemory {
         ensures others { IsOtherwiseSame page (disk_seen self.old) (disk_seen self.new) }
         ensures cause { IsCounted (faults_of self.old) (faults_of self.new) result }
         ensures unsynced { synced_of self.new ≡ false }
-        ensures ok { OnOk result ((¬ (IsListed self.old.calls)) × (self.new.calls ≡ answered self.old.calls)
+        ensures ok { OnOk result ((¬ (FailsNext self.old.calls)) × (self.new.calls ≡ answered self.old.calls)
             × IsKept page (whole bytes.now) self.old.kept self.new.kept) }
-        ensures err { OnErr result ((IsListed self.old.calls × (self.new.calls ≡ failed self.old.calls)
+        ensures err { OnErr result ((FailsNext self.old.calls × (self.new.calls ≡ failed self.old.calls)
             × IsKept page (half_over bytes.now (bytes_of self.old page)) self.old.kept self.new.kept)
             ⊎ ((self.new.calls ≡ starved self.old.calls) × (self.new.kept ≡ self.old.kept))) }
         ensures rest { self.new ≡ record self.old { kept = self.new.kept; calls = self.new.calls; synced = false } }
@@ -239,8 +239,8 @@ impl PageDisk for DiskMemory {
         ensures cause { IsCounted (faults_of self.old) (faults_of self.new) result }
         ensures synced { OnOk result (IsTrue (synced_of self.new)) }
         ensures failed { OnErr result (self.new.synced ≡ self.old.synced) }
-        ensures exact { IsErr result ↔ IsListed self.old.calls }
-        ensures calls { IsCalled self.old.calls self.new.calls result }
+        ensures exact { IsErr result ↔ FailsNext self.old.calls }
+        ensures calls { AnswersCall self.old.calls self.new.calls result }
         ensures rest { self.new ≡ record self.old { calls = self.new.calls; synced = self.new.synced } }
     {
         begin(&mut self.calls)?;

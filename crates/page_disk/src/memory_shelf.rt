@@ -2,8 +2,8 @@
 ghost use Rattle.std.specs.Prelude.{◌≡◌, ◌≢◌, ◌⊎◌, ◌↔◌, IfOk, IfSome, IfNone, OnOk, OnErr, IsErr, IsSome, ℕ, Some, None, slice_set};
 ghost use Rattle.page_ids.specs.Size.{page_bytes};
 ghost use Rattle.page_ids.specs.Faults.{IsCounted};
-ghost use Rattle.page_disk.specs.Calls.{IsListed, IsCalled, uncalled};
-ghost use Rattle.page_disk.specs.MemoryDisks.{IsMissing, IsUnwritten, size_of, disk_of, disk_seen, shelf_seen, redo_seen};
+ghost use Rattle.page_disk.specs.Calls.{FailsNext, AnswersCall, uncalled};
+ghost use Rattle.page_disk.specs.MemoryDisks.{IsMissing, IsLogUnwritten, size_of, disk_of, disk_seen, shelf_seen, redo_seen};
 ghost use Rattle.page_disk.specs.Shelves.{IsAskedFor, IsAskedForLog, IsAsOffered, IsLogAsOffered, unasked};
 
 use crate::asked::Asked;
@@ -26,20 +26,20 @@ pub struct MemoryShelf {
 
 impl Model for MemoryShelf {
     ghost use Rattle.std.specs.Prelude.{IfSome};
-    ghost use Rattle.page_disk.specs.MemoryDisks.{MemoryShelf, IsUnwritten};
+    ghost use Rattle.page_disk.specs.MemoryDisks.{MemoryShelf, IsLogUnwritten};
 
     ghost Value = { MemoryShelf };
 
     ghost view = { λ s. record { disks = s.disks.items; redo = s.redo; asked = s.asked; calls = s.calls } };
 
-    ghost invariant = { λ s. IfSome s.redo IsUnwritten };
+    ghost invariant = { λ s. IfSome s.redo IsLogUnwritten };
 }
 
 impl MemoryShelf {
     /// A shelf of these disks, the first of instance 0, and of this log's device, to which nothing was written. It fails at its calls with
     /// the numbers in `failing`, from 1, counted over disks and log.
     pub fn new(disks: Vec<Option<DiskMemory>>, redo: RedoMemory, failing: Vec<u64>) -> MemoryShelf
-        requires unwritten { IsUnwritten redo }
+        requires unwritten { IsLogUnwritten redo }
         ensures { result ≡ record {
           disks = disks.items;
           redo = Some redo;
@@ -96,11 +96,11 @@ impl Shelf for MemoryShelf {
         ensures log { (shelf_seen self.new).log ≡ (shelf_seen self.old).log }
         ensures asked { IsAskedFor config.now instance self.old.asked self.new.asked }
         ensures cause { IsCounted self.old.calls.faults self.new.calls.faults result }
-        ensures exact { IsErr result ↔ (IsListed self.old.calls ⊎ IsMissing config.now.page instance self.old.disks) }
+        ensures exact { IsErr result ↔ (FailsNext self.old.calls ⊎ IsMissing config.now.page instance self.old.disks) }
         ensures given { IfOk result (λ disk. disk_of self.old.disks instance ≡ Some disk) }
         ensures left { OnOk result (self.new.disks ≡ slice_set self.old.disks instance None) }
         ensures kept { OnErr result (self.new.disks ≡ self.old.disks) }
-        ensures rest { (self.new.redo ≡ self.old.redo) × IsCalled self.old.calls self.new.calls result }
+        ensures rest { (self.new.redo ≡ self.old.redo) × AnswersCall self.old.calls self.new.calls result }
     {
         self.asked.note(config, instance);
         begin(&mut self.calls)?;
@@ -113,18 +113,18 @@ impl Shelf for MemoryShelf {
     /// Fails exactly where the call is listed or the log was handed out.
     #[tactic(auto, using(crate::proofs::Counts::counted))]
     fn redo(&mut self, config: &Config) -> Result<RedoMemory, Failed>
-        ensures opened { IfOk result IsUnwritten }
+        ensures opened { IfOk result IsLogUnwritten }
         ensures offered { IfOk result (λ log. IsLogAsOffered (shelf_seen self.old).log (redo_seen log)) }
         ensures stays { OnErr result ((shelf_seen self.new).log ≡ (shelf_seen self.old).log) }
         ensures disks { (shelf_seen self.new).disks ≡ (shelf_seen self.old).disks }
         ensures asked { IsAskedForLog config.now self.old.asked self.new.asked }
         ensures cause { IsCounted self.old.calls.faults self.new.calls.faults result }
-        ensures exact { IsErr result ↔ (IsListed self.old.calls ⊎ (self.old.redo ≡ None)) }
+        ensures exact { IsErr result ↔ (FailsNext self.old.calls ⊎ (self.old.redo ≡ None)) }
         ensures given { IfOk result (λ log. self.old.redo ≡ Some log) }
         ensures left { OnOk result (self.new.redo ≡ None) }
         ensures kept { OnErr result (self.new.redo ≡ self.old.redo) }
         ensures same { self.new.disks ≡ self.old.disks }
-        ensures calls { IsCalled self.old.calls self.new.calls result }
+        ensures calls { AnswersCall self.old.calls self.new.calls result }
     {
         self.asked.note_log(config);
         begin(&mut self.calls)?;

@@ -1,8 +1,8 @@
 //! A sink in memory.
 ghost use Rattle.std.specs.Prelude.{◌≡◌, ◌<◌, ◌-◌, ◌^◌, ◌⊎◌, [], min, length, Some, OnOk, OnErr, IfOk};
 ghost use Rattle.page_ids.specs.Faults.{IsCounted};
-ghost use Rattle.page_disk.specs.Streams.{Puts};
-ghost use Rattle.page_disk.specs.Calls.{IsListed, answered, failed, starved, uncalled};
+ghost use Rattle.page_disk.specs.Streams.{PutsPiece};
+ghost use Rattle.page_disk.specs.Calls.{FailsNext, answered, failed, starved, uncalled};
 
 use crate::calls::begin;
 use crate::stream::Sink;
@@ -61,12 +61,12 @@ impl Sink for SinkMemory {
     #[tactic(auto, using(crate::proofs::Counts::counted))]
     fn put(&mut self, piece: &[u8]) -> Result<u32, Failed>
         requires { 0 < length piece.now }
-        ensures bytes { Puts (Some self.old.held) (Some self.new.held) result piece.now }
+        ensures bytes { PutsPiece (Some self.old.held) (Some self.new.held) result piece.now }
         ensures cause { IsCounted self.old.calls.faults self.new.calls.faults result }
         ensures many { IfOk result (λ n. n ≡ min (length piece.now) (2 ^ 32 - 1)) }
-        ensures ok { OnOk result ((¬ (IsListed self.old.calls)) × (self.new.calls ≡ answered self.old.calls)) }
-        ensures err { OnErr result ((IsListed self.old.calls × (self.new.calls ≡ failed self.old.calls))
-            ⊎ ((¬ (IsListed self.old.calls)) × (self.new.calls ≡ starved self.old.calls))) }
+        ensures ok { OnOk result ((¬ (FailsNext self.old.calls)) × (self.new.calls ≡ answered self.old.calls)) }
+        ensures err { OnErr result ((FailsNext self.old.calls × (self.new.calls ≡ failed self.old.calls))
+            ⊎ ((¬ (FailsNext self.old.calls)) × (self.new.calls ≡ starved self.old.calls))) }
     {
         begin(&mut self.calls)?;
         let n = piece.len().min(0xffff_ffff);

@@ -1,8 +1,8 @@
 //! A source in memory.
 ghost use Rattle.std.specs.Prelude.{◌≡◌, ◌<◌, ◌-◌, ◌^◌, ◌↔◌, min, length, Some, IfOk, IsErr};
 ghost use Rattle.page_ids.specs.Faults.{IsCounted};
-ghost use Rattle.page_disk.specs.Streams.{Takes};
-ghost use Rattle.page_disk.specs.Calls.{IsListed, IsCalled, uncalled};
+ghost use Rattle.page_disk.specs.Streams.{TakesPiece};
+ghost use Rattle.page_disk.specs.Calls.{FailsNext, AnswersCall, uncalled};
 
 use crate::calls::begin;
 use crate::stream::Source;
@@ -52,11 +52,11 @@ impl Source for SourceMemory {
     #[tactic(auto, using(crate::proofs::Counts::counted))]
     fn take(&mut self, out: &mut [u8]) -> Result<u32, Failed>
         requires { 0 < length out.old }
-        ensures bytes { Takes (Some self.old.left) (Some self.new.left) result out.new }
+        ensures bytes { TakesPiece (Some self.old.left) (Some self.new.left) result out.new }
         ensures cause { IsCounted self.old.calls.faults self.new.calls.faults result }
         ensures many { IfOk result (λ n. n ≡ min (min (length self.old.left) (length out.old)) (2 ^ 32 - 1)) }
-        ensures exact { IsErr result ↔ IsListed self.old.calls }
-        ensures calls { IsCalled self.old.calls self.new.calls result }
+        ensures exact { IsErr result ↔ FailsNext self.old.calls }
+        ensures calls { AnswersCall self.old.calls self.new.calls result }
     {
         begin(&mut self.calls)?;
         let n = (self.bytes.len() - self.at).min(out.len()).min(0xffff_ffff);

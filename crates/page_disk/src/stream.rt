@@ -1,7 +1,7 @@
 //! Where a script comes from, and where the text goes.
 ghost use Rattle.std.specs.Prelude.{◌<◌, ℕ, List, Option, length};
 ghost use Rattle.page_ids.specs.Faults.{IsCounted};
-ghost use Rattle.page_disk.specs.Streams.{Takes, Puts};
+ghost use Rattle.page_disk.specs.Streams.{TakesPiece, PutsPiece};
 
 use page_ids::Failed;
 
@@ -13,10 +13,10 @@ pub trait Source {
     /// How often it failed; stays at 2^64 - 1.
     ghost fault_count: { Self → ℕ };
 
-    /// Puts its next bytes at the front of `out`, and answers how many; 0 comes exactly where nothing is left.
+    /// PutsPiece its next bytes at the front of `out`, and answers how many; 0 comes exactly where nothing is left.
     fn take(&mut self, out: &mut [u8]) -> Result<u32, Failed>
         requires { 0 < length out.old }
-        ensures bytes { Takes (left self.old) (left self.new) result out.new }
+        ensures bytes { TakesPiece (left self.old) (left self.new) result out.new }
         ensures cause { IsCounted (fault_count self.old) (fault_count self.new) result };
 }
 
@@ -28,9 +28,9 @@ pub trait Sink {
     /// How often it failed; stays at 2^64 - 1.
     ghost fault_count: { Self → ℕ };
 
-    /// Takes at least one byte from the front of a piece that is not empty, puts what it takes behind all that it holds, and answers how many bytes these are.
+    /// TakesPiece at least one byte from the front of a piece that is not empty, puts what it takes behind all that it holds, and answers how many bytes these are.
     fn put(&mut self, piece: &[u8]) -> Result<u32, Failed>
         requires { 0 < length piece.now }
-        ensures bytes { Puts (held self.old) (held self.new) result piece.now }
+        ensures bytes { PutsPiece (held self.old) (held self.new) result piece.now }
         ensures cause { IsCounted (fault_count self.old) (fault_count self.new) result };
 }

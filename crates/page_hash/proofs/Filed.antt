@@ -6,7 +6,7 @@ use Rattle.std.proofs.lemmas.Grind.{get_or-set_at}
 use Rattle.std.proofs.lemmas.Option.{slice_get_within, slice_get_read, get_or_from_slice_get}
 use Rattle.page_ids.specs.declared.ids.PageId.{PageId}
 use Rattle.link_lists.specs.Grid.{Grid, times}
-use Rattle.link_lists.specs.Chains.{Ends, IsChain, Keeps}
+use Rattle.link_lists.specs.Chains.{Ends, IsChain, KeepsOthers}
 use Rattle.page_hash.specs.Cells.{cell_of, falls_into, with_page, IsCell, AreFiled}
 use Rattle.link_lists.proofs.Times.{times-append, times_at, times_past, placed}
 
@@ -108,7 +108,7 @@ read_of cells page n c chain all own inside is = record {
 
 -- one cell changed, and of the others neither the frames nor the nodes
 pub filed_after : (old new : Grid) (cells : List Ends) (at then : Tags) (c : ℕ) (chain : Ends) (touched : List ℕ)
-    → AreFiled old cells at → IsCell new chain then (length cells) c → Keeps 0 old new touched
+    → AreFiled old cells at → IsCell new chain then (length cells) c → KeepsOthers 0 old new touched
     → ((d f : ℕ) → d ≢ c → falls_into (length cells) d (at f) ≡ true → times f touched ≡ 0)
     → ((d f : ℕ) → d ≢ c → falls_into (length cells) d (then f) ≡ falls_into (length cells) d (at f))
     → AreFiled new (set cells c chain) then
@@ -138,7 +138,7 @@ pub filed_with : (old new : Grid) (cells : List Ends) (at : Tags) (c frame : ℕ
     → IsRead cells page c was → at frame ≡ None → AreFiled old cells at
     → chain.pair ≡ was.pair
     → ((xs : List ℕ) → IsChain old was xs → IsChain new chain (frame ∷ xs))
-    → ((xs : List ℕ) → IsChain old was xs → Keeps was.pair old new (frame ∷ xs))
+    → ((xs : List ℕ) → IsChain old was xs → KeepsOthers was.pair old new (frame ∷ xs))
     → AreFiled new (set cells c chain) (with_page frame (Some page) at)
 filed_with old new cells at c frame page was chain read none filed pair list others =
     let n = length cells in
@@ -151,7 +151,7 @@ filed_with old new cells at c frame page was chain read none filed pair list oth
       chain_is = list k.frames k.chain_is;
       counted = counts_with n c at frame page [] k.frames falls none k.counted;
     })
-    (subst (λ q. Keeps q old new (frame ∷ k.frames)) k.pair (others k.frames k.chain_is))
+    (subst (λ q. KeepsOthers q old new (frame ∷ k.frames)) k.pair (others k.frames k.chain_is))
     (λ d f ne t.
     let ne_frame : frame ≢ f = λ e. (let bad : false ≡ true = ap (falls_into n d) (sym none ∙ ap at e) ∙ t in absurd (cc)) in
     times_past f frame k.frames ne_frame ∙ lacks n c at k.frames f k.counted (one_cell n d c (at f) t (λ e. ne (sym e))))
@@ -162,7 +162,7 @@ pub filed_without : (old new : Grid) (cells : List Ends) (at : Tags) (c frame : 
     → IsRead cells page c was → at frame ≡ Some page → AreFiled old cells at
     → chain.pair ≡ was.pair
     → ((front back : List ℕ) → IsChain old was (front ++ frame ∷ back) → IsChain new chain (front ++ back))
-    → ((xs : List ℕ) → IsChain old was xs → Keeps was.pair old new xs)
+    → ((xs : List ℕ) → IsChain old was xs → KeepsOthers was.pair old new xs)
     → AreFiled new (set cells c chain) (with_page frame None at)
 filed_without old new cells at c frame page was chain read some filed pair list others =
     let n = length cells in
@@ -176,7 +176,7 @@ filed_without old new cells at c frame page was chain read some filed pair list 
       chain_is = list p.0 p.1 (subst (λ xs. IsChain old was xs) p.2 k.chain_is);
       counted = counts_without n c at frame p.0 p.1 falls (subst (λ xs. Counts n c at xs) p.2 k.counted);
     })
-    (subst (λ q. Keeps q old new k.frames) k.pair (others k.frames k.chain_is))
+    (subst (λ q. KeepsOthers q old new k.frames) k.pair (others k.frames k.chain_is))
     (λ d f ne t. lacks n c at k.frames f k.counted (one_cell n d c (at f) t (λ e. ne (sym e))))
     (λ d f ne. same_else n d frame None at refl (one_cell n c d (at frame) falls ne) f)
 
@@ -185,7 +185,7 @@ pub filed_moved : (old new : Grid) (cells : List Ends) (at : Tags) (c from to : 
     → IsRead cells page c was → at from ≡ Some page → at to ≡ None → AreFiled old cells at
     → chain.pair ≡ was.pair
     → ((front back : List ℕ) → IsChain old was (front ++ from ∷ back) → IsChain new chain (front ++ to ∷ back))
-    → ((xs : List ℕ) → IsChain old was xs → Keeps was.pair old new (to ∷ xs))
+    → ((xs : List ℕ) → IsChain old was xs → KeepsOthers was.pair old new (to ∷ xs))
     → AreFiled new (set cells c chain) (with_page to (Some page) (with_page from None at))
 filed_moved old new cells at c from to page was chain read some none filed pair list others =
     let n = length cells in
@@ -203,7 +203,7 @@ filed_moved old new cells at c from to page was chain read some none filed pair 
       chain_is = list p.0 p.1 (subst (λ xs. IsChain old was xs) p.2 k.chain_is);
       counted = counts_with n c left to page p.0 p.1 own_falls away (counts_without n c at from p.0 p.1 falls (subst (λ xs. Counts n c at xs) p.2 k.counted));
     })
-    (subst (λ q. Keeps q old new (to ∷ k.frames)) k.pair (others k.frames k.chain_is))
+    (subst (λ q. KeepsOthers q old new (to ∷ k.frames)) k.pair (others k.frames k.chain_is))
     (λ d f ne t.
     let ne_frame : to ≢ f = λ e. (let bad : false ≡ true = ap (falls_into n d) (sym none ∙ ap at e) ∙ t in absurd (cc)) in
     times_past f to k.frames ne_frame ∙ lacks n c at k.frames f k.counted (one_cell n d c (at f) t (λ e. ne (sym e))))

@@ -11,8 +11,8 @@ use Rattle.page_ids.proofs.Basics.{some_same, same_self, one_page}
 use Rattle.page_ids.specs.declared.ids.PageId.{PageId}
 use Rattle.page_ids.specs.Same.{same_page}
 use Rattle.page_hash.specs.Cells.{with_page}
-use Rattle.page_hash.specs.View.{page_in, is_page, home, IsUnused, IsRehomed, IsResized, IsInOrder}
-use Rattle.page_hash.specs.Inside.{AreApart}
+use Rattle.page_hash.specs.View.{page_in, is_page, home, IsUnused, IsRehomed, IsRoomChanged, IsInOrder}
+use Rattle.page_hash.specs.Inside.{AreFramesApart}
 
 abbrev pub Pages : Type 0
 Pages = List (Option PageId)
@@ -44,7 +44,7 @@ no_home pages p f none e = elim (cases_lt f (position_or_len (is_page p) pages))
       absurd (cc)
 ]
 
-pub home_is : (pages : Pages) (p : PageId) (f : ℕ) → AreApart pages → page_in pages f ≡ Some p → home pages p ≡ Some f
+pub home_is : (pages : Pages) (p : PageId) (f : ℕ) → AreFramesApart pages → page_in pages f ≡ Some p → home pages p ≡ Some f
 home_is pages p f apart e = cases (home pages p) refl
   where
     cases : (o : Option ℕ) → home pages p ≡ o → home pages p ≡ Some f
@@ -59,7 +59,7 @@ none_home pages p away = cases (home pages p) refl
     cases (Some g) t = absurd (away g (at_home pages p g t))
 
 -- a page that the same frames have before and behind
-pub home_same : (old new : Pages) (p : PageId) → AreApart new → ((f : ℕ) → page_in old f ≡ Some p → page_in new f ≡ Some p)
+pub home_same : (old new : Pages) (p : PageId) → AreFramesApart new → ((f : ℕ) → page_in old f ≡ Some p → page_in new f ≡ Some p)
     → ((f : ℕ) → page_in new f ≡ Some p → page_in old f ≡ Some p) → home new p ≡ home old p
 home_same old new p apart there back = cases (home old p) refl
   where
@@ -68,7 +68,7 @@ home_same old new p apart there back = cases (home old p) refl
     cases (Some g) t = home_is new p g apart (there g (at_home old p g t)) ∙ sym t
 
 -- a frame that is no page's home has none
-pub unused : (pages : Pages) (f : ℕ) → AreApart pages → IsUnused pages f → page_in pages f ≡ None
+pub unused : (pages : Pages) (f : ℕ) → AreFramesApart pages → IsUnused pages f → page_in pages f ≡ None
 unused pages f apart away = cases (page_in pages f) refl
   where
     cases : (o : Option PageId) → page_in pages f ≡ o → page_in pages f ≡ None
@@ -106,7 +106,7 @@ tags_next pages i l f =
     ])
 
 pub record Rehomed (old new : Pages) (page : PageId) (to : Option ℕ) : Type 0 where
-  pub apart : AreApart new
+  pub apart : AreFramesApart new
   pub map_is : IsRehomed old new page to
 
 homes_from : (old new : Pages) (page : PageId) (to : Option ℕ) → home new page ≡ to → ((p : PageId) → same_page p page ≡ false → home new p ≡ home old p)
@@ -121,7 +121,7 @@ homes_from old new page to own others p = cases (same_page p page) refl
 differ : (p q : PageId) → same_page p q ≡ false → p ≡ q → ⊥
 differ p q t e = let bad : true ≡ false = sym (same_self q) ∙ ap (λ x. same_page x q) (sym e) ∙ t in absurd (cc)
 
-pub inserted : (pages : Pages) (page : PageId) (frame : ℕ) → frame < length pages → AreApart pages → home pages page ≡ None → page_in pages frame ≡ None
+pub inserted : (pages : Pages) (page : PageId) (frame : ℕ) → frame < length pages → AreFramesApart pages → home pages page ≡ None → page_in pages frame ≡ None
     → Rehomed pages (set pages frame (Some page)) page (Some frame)
 inserted pages page frame l apart away free =
     let new = set pages frame (Some page) in
@@ -139,7 +139,7 @@ inserted pages page frame l apart away free =
       };
     }
   where
-    still : AreApart (set pages frame (Some page))
+    still : AreFramesApart (set pages frame (Some page))
     still f g p e h =
         let here = set_here pages frame (Some page) l in
         elim (cases_eq f frame) [
@@ -157,7 +157,7 @@ inserted pages page frame l apart away free =
           ]
         ]
 
-pub removed : (pages : Pages) (page : PageId) (frame : ℕ) → AreApart pages → home pages page ≡ Some frame → Rehomed pages (set pages frame None) page None
+pub removed : (pages : Pages) (page : PageId) (frame : ℕ) → AreFramesApart pages → home pages page ≡ Some frame → Rehomed pages (set pages frame None) page None
 removed pages page frame apart there =
     let new = set pages frame None in
     record {
@@ -182,7 +182,7 @@ removed pages page frame apart there =
     left f p e = sym (set_else pages frame f None (λ own.
         none-some p (sym (set_here pages frame None (inside pages frame page (at_home pages page frame there))) ∙ ap (page_in (set pages frame None)) (sym own) ∙ e))) ∙ e
 
-    still : AreApart (set pages frame None)
+    still : AreFramesApart (set pages frame None)
     still f g p e h =
         let back = λ (i : ℕ) (k : page_in (set pages frame None) i ≡ Some p). sym (set_else pages frame i None (λ own.
         none-some p (sym (set_here pages frame None (inside pages frame page (at_home pages page frame there))) ∙ ap (page_in (set pages frame None)) (sym own) ∙ k))) ∙ k in
@@ -202,7 +202,7 @@ moved old mid new page to out into = record {
 pub out_of_map : (old mid : Pages) (page : PageId) → IsRehomed old mid page None → home mid page ≡ None
 out_of_map old mid page out = out.homes page ∙ ap (λ b. cond b None (home old page)) (same_self page)
 
-pub in_order : (pages : Pages) → AreApart pages → IsInOrder pages
+pub in_order : (pages : Pages) → AreFramesApart pages → IsInOrder pages
 in_order pages apart = record {
   once = λ p q f e h. some_same (sym (at_home pages p f e) ∙ at_home pages q f h);
   below = λ p f e. (position-Some (is_page p) pages f None e).0;
@@ -212,12 +212,12 @@ in_order pages apart = record {
 pub record Moved (pages : Pages) (page : PageId) (from to : ℕ) : Type 0 where
   pub out : page_in pages from ≡ Some page
   pub free : page_in pages to ≡ None
-  pub apart : AreApart (set (set pages from None) to (Some page))
+  pub apart : AreFramesApart (set (set pages from None) to (Some page))
   pub map_is : IsRehomed pages (set (set pages from None) to (Some page)) page (Some to)
   pub tags : (f : ℕ) → with_page to (Some page) (with_page from None (page_in pages)) f ≡ page_in (set (set pages from None) to (Some page)) f
   pub long : length (set (set pages from None) to (Some page)) ≡ length pages
 
-replaced : (pages : Pages) (page : PageId) (from to : ℕ) → to < length pages → AreApart pages → home pages page ≡ Some from → IsUnused pages to → Moved pages page from to
+replaced : (pages : Pages) (page : PageId) (from to : ℕ) → to < length pages → AreFramesApart pages → home pages page ≡ Some from → IsUnused pages to → Moved pages page from to
 replaced pages page from to l apart there away =
     let mid = set pages from None in
     let was = at_home pages page from there in
@@ -238,16 +238,16 @@ replaced pages page from to l apart there away =
     }
 
 -- the same of a map as it is seen, where the look-up found the frame
-pub replaced_seen : (pages now : Pages) (page : PageId) (from to : ℕ) (r : Option ℕ) → pages ≡ now → AreApart pages → r ≡ home now page → r ≡ Some from → to < length now → IsUnused now to
+pub replaced_seen : (pages now : Pages) (page : PageId) (from to : ℕ) (r : Option ℕ) → pages ≡ now → AreFramesApart pages → r ≡ home now page → r ≡ Some from → to < length now → IsUnused now to
     → Moved pages page from to
 replaced_seen pages now page from to r is apart found some room away =
     replaced pages page from to (omega (arith, room, ap length is)) apart (ap (λ xs. home xs page) is ∙ sym found ∙ some) (subst (λ xs. IsUnused xs to) (sym is) away)
 
 -- the pages of the frames that were there, and more frames without any
-pub resized : (old new : Pages) (m n : ℕ) → m ≡ length old → length new ≡ n → m ≤ n → AreApart old → ((f : ℕ) → f < n → f < m → page_in new f ≡ page_in old f)
-    → ((f : ℕ) → m ≤ f → f < n → page_in new f ≡ None) → AreApart new × IsResized old new n
+pub resized : (old new : Pages) (m n : ℕ) → m ≡ length old → length new ≡ n → m ≤ n → AreFramesApart old → ((f : ℕ) → f < n → f < m → page_in new f ≡ page_in old f)
+    → ((f : ℕ) → m ≤ f → f < n → page_in new f ≡ None) → AreFramesApart new × IsRoomChanged old new n
 resized old new m n was long le apart kept more =
-    let still : AreApart new = λ f g p e h. apart f g p (same f ∙ e) (same g ∙ h) in
+    let still : AreFramesApart new = λ f g p e h. apart f g p (same f ∙ e) (same g ∙ h) in
     (still, record { homes = λ p. home_same old new p still (λ f e. sym (same f) ∙ e) (λ f e. same f ∙ e); room_is = long })
   where
     same : (f : ℕ) → page_in old f ≡ page_in new f

@@ -31,7 +31,7 @@ pub record IsRehomed (old new : List (Option PageId)) (page : PageId) (to : Opti
   pub room_is : room new ≡ room old
 
 -- every page has the home that it had, and there is so much room
-pub record IsResized (old new : List (Option PageId)) (frames : ℕ) : Type 0 where
+pub record IsRoomChanged (old new : List (Option PageId)) (frames : ℕ) : Type 0 where
   pub homes : (p : PageId) → home new p ≡ home old p
   pub room_is : room new ≡ frames
 

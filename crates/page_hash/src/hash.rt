@@ -1,6 +1,6 @@
 //! The hash, and its calls.
 ghost use Rattle.std.specs.Prelude.{◌≡◌, ◌≤◌, ◌<◌, max, [], None, Some, IfOk, IsSome, OnOk, OnErr};
-ghost use Rattle.page_hash.specs.View.{room, page_in, is_page, home, IsUnused, IsRehomed, IsResized, IsInOrder};
+ghost use Rattle.page_hash.specs.View.{room, page_in, is_page, home, IsUnused, IsRehomed, IsRoomChanged, IsInOrder};
 
 use crate::cells::{cell_of, empty_cells, file, file_all, refile, unfile};
 use link_lists::{Chain, Nodes, a_chain_is_one_list};
@@ -126,7 +126,7 @@ impl PageHash {
     /// less room than before.
     pub fn resize(&mut self, cells: u32, frames: u32) -> Result<(), OutOfMemory>
         requires { 1 ≤ cells }
-        ensures ok { OnOk result (IsResized self.old self.new (max (room self.old) frames)) }
+        ensures ok { OnOk result (IsRoomChanged self.old self.new (max (room self.old) frames)) }
         ensures err { OnErr result (self.new ≡ self.old) }
     {
         let alloc = *self.pages.allocator();

@@ -26,5 +26,5 @@ AreBytes bytes = AllByRecursion IsByte bytes
 abbrev pub ArePages : List PageId → Type 0
 ArePages pages = AllByRecursion FitsId pages
 
-abbrev pub AreFrames : List (ℕ × Word) → Type 0
-AreFrames frames = AllByRecursion (λ (f : ℕ × Word). IsU32 f.0 × IsWord f.1) frames
+abbrev pub AreFrameWords : List (ℕ × Word) → Type 0
+AreFrameWords frames = AllByRecursion (λ (f : ℕ × Word). IsU32 f.0 × IsWord f.1) frames

@@ -5,7 +5,7 @@
 ghost use Rattle.std.specs.Prelude.{◌≡◌, ◌⊎◌, ◌<◌, ◌≤◌, ◌+◌, ◌↔◌, ℕ, length, OnOk, OnErr, IsOk, IfErr, IsTrue, slice_index, EachIndex, if◌then◌else◌};
 ghost use Rattle.page_ids.specs.Content.{is_stamped};
 ghost use Rattle.page_ids.specs.Layout.{IsPage, IsBlank, IsSound, u32_at, u64_at};
-ghost use Rattle.page_ids.specs.Refusal.{IsBad};
+ghost use Rattle.page_ids.specs.Refusal.{IsBadPage};
 
 use crate::ids::PageId;
 use crate::image::Image;
@@ -79,7 +79,7 @@ pub(crate) fn copy_unstamped(bytes: &[u8], out: &mut [u8])
 fn judge(page: PageId, bytes: &[u8]) -> Result<(), BadPage>
     requires { 46 ≤ length bytes.now }
     ensures exact { IsOk result ↔ IsSound page bytes.now }
-    ensures bad { IfErr result (IsBad page bytes.now) }
+    ensures bad { IfErr result (IsBadPage page bytes.now) }
 {
     if is_blank(bytes) {
         return Ok(());
@@ -108,7 +108,7 @@ pub fn decode(page: PageId, bytes: &[u8], into: &mut Image) -> Result<(), BadPag
     ensures exact { IsOk result ↔ IsSound page bytes.now }
     ensures ok { OnOk result (IsPage page bytes.now into.new) }
     ensures err { OnErr result (into.new ≡ into.old) }
-    ensures bad { IfErr result (IsBad page bytes.now) }
+    ensures bad { IfErr result (IsBadPage page bytes.now) }
 {
     let _size = into.size();
     judge(page, bytes)?;

@@ -16,7 +16,7 @@ use Rattle.frame_words.specs.Conditions.{IsUntouched, IsUncovered, IsLatched, Is
 use Rattle.frame_words.specs.Plain.{Plain, seen_of}
 use Rattle.frame_words.specs.Rows.{Row, Uncovers, new_row, reached, claimed_row, published_row, latched_row, unlatched_row, stamped_row, lifted_row, laid_row, held_row}
 use Rattle.frame_words.specs.Seen.{FramesSeen, row_at, with_row, noted, visited, left, is_owed}
-use Rattle.part_tests.specs.Telling.{Telling, telling_seen, IsSized, IsKept, AreTold}
+use Rattle.part_tests.specs.Telling.{Telling, telling_seen, IsImageSized, IsKept, AreTold}
 use mathlib.Core.Logic.{dite}
 use native.Mathlib.Decide.{ℕ_discrete}
 
@@ -42,10 +42,10 @@ new_kept size n = λ f below. subst (λ (r : Row). IsKept size r)
     (sym (get_or-replicate n f new_row new_row (subst (λ (k : ℕ). f < k) (length-replicate n new_row) below)))
     (new_row_kept size)
 
-uncovered_sized : (size : ℕ) (old image : Option (Option Content)) → IsSized size old → Uncovers old image → IsSized size image
-uncovered_sized size None image sized told = subst (λ (i : Option (Option Content)). IsSized size i) (sym told) sized
+uncovered_sized : (size : ℕ) (old image : Option (Option Content)) → IsImageSized size old → Uncovers old image → IsImageSized size image
+uncovered_sized size None image sized told = subst (λ (i : Option (Option Content)). IsImageSized size i) (sym told) sized
 uncovered_sized size (Some None) image sized told = absurd sized
-uncovered_sized size (Some (Some c)) image sized told = subst (λ (i : Option (Option Content)). IsSized size i) (sym told) sized
+uncovered_sized size (Some (Some c)) image sized told = subst (λ (i : Option (Option Content)). IsImageSized size i) (sym told) sized
 
 module _ {T : Type 0} where
   some_of : (o : Option T) (P : T → Type 0) → IsSomeAnd o P → IsSome o
@@ -84,7 +84,7 @@ published size r page clock kept there =
     let same : reached r.held (not r.latched) r.image ≡ r.image = reached_same r.held (not r.latched) r.image kept.held in
     record {
       held = kept.held;
-      sized = subst (λ (i : Option (Option Content)). IsSized size i) (sym same) kept.sized;
+      sized = subst (λ (i : Option (Option Content)). IsImageSized size i) (sym same) kept.sized;
       there = λ resident unlatched. subst (λ (i : Option (Option Content)). IsSome i) (sym same) there;
     }
 
@@ -93,7 +93,7 @@ unlatched size r kept there =
     let same : reached r.held (r.resident && true) r.image ≡ r.image = reached_same r.held (r.resident && true) r.image kept.held in
     record {
       held = kept.held;
-      sized = subst (λ (i : Option (Option Content)). IsSized size i) (sym same) kept.sized;
+      sized = subst (λ (i : Option (Option Content)). IsImageSized size i) (sym same) kept.sized;
       there = λ resident unlatched. subst (λ (i : Option (Option Content)). IsSome i) (sym same) (there resident);
     }
 
@@ -215,7 +215,7 @@ kept_visited size p p' f w kept new = subst (λ (rows : List Row). AreTold size 
 pub kept_left : (size : ℕ) (p p' : Plain) (f : ℕ) (w : Word) → AreTold size p.rows → seen_of p' ≡ left (seen_of p) f w → AreTold size p'.rows
 kept_left size p p' f w kept new = subst (λ (rows : List Row). AreTold size rows) (sym (ap (λ (s : FramesSeen). s.rows) new)) kept
 
-some_sized : (size : ℕ) (image : Option (Option Content)) → IsSized size image → IsSome image
+some_sized : (size : ℕ) (image : Option (Option Content)) → IsImageSized size image → IsSome image
     → IsSomeAnd image (λ told. IsSomeAnd told (λ c. length c.bytes ≡ size))
 some_sized size None sized some = absurd (false≢true some)
 some_sized size (Some told) sized some = sized

@@ -6,7 +6,7 @@ use Rattle.std.proofs.lemmas.Option.{none-some}
 use Rattle.std.proofs.lemmas.List.Folds.{list_any-append}
 use Rattle.page_ids.specs.declared.ids.PageId.{PageId}
 use Rattle.page_ids.specs.Same.{same_page}
-use Rattle.page_hash.specs.View.{home, IsUnused, IsRehomed, IsResized}
+use Rattle.page_hash.specs.View.{home, IsUnused, IsRehomed, IsRoomChanged}
 use Rattle.part_tests.specs.Used.{AreUsed}
 
 pub unused : (pages : List (Option PageId)) (used : List ℕ) (f : ℕ) → AreUsed pages used → list_any (λ u. u == f) used ≡ false → IsUnused pages f
@@ -35,5 +35,5 @@ used_less old new used page k r p f e = cases (same_page p page) refl
     cases true t = absurd (none-some f (sym (r.homes p ∙ ap (λ b. cond b None (home old p)) t) ∙ e))
     cases false t = k p f (sym (r.homes p ∙ ap (λ b. cond b None (home old p)) t) ∙ e)
 
-pub used_same : (old new : List (Option PageId)) (used : List ℕ) (frames : ℕ) → AreUsed old used → IsResized old new frames → AreUsed new used
+pub used_same : (old new : List (Option PageId)) (used : List ℕ) (frames : ℕ) → AreUsed old used → IsRoomChanged old new frames → AreUsed new used
 used_same old new used frames k r p f e = k p f (sym (r.homes p) ∙ e)

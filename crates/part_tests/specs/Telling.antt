@@ -15,13 +15,13 @@ abbrev pub telling_seen : Telling → FramesSeen
 telling_seen t = record (seen_of t.plain) { history = Some t.history; turn = Some t.turn }
 
 -- an image is told, and has so many bytes
-abbrev pub IsSized : ℕ → Option (Option Content) → Type 0
-IsSized size image = IfSome image (λ told. IsSomeAnd told (λ c. length c.bytes ≡ size))
+abbrev pub IsImageSized : ℕ → Option (Option Content) → Type 0
+IsImageSized size image = IfSome image (λ told. IsSomeAnd told (λ c. length c.bytes ≡ size))
 
 -- Fixes and images are told, an image has so many bytes, and a frame that others can read has one.
 pub record IsKept (size : ℕ) (r : Row) : Type 0 where
   pub held : IsSome r.held
-  pub sized : IsSized size r.image
+  pub sized : IsImageSized size r.image
   pub there : r.resident ≡ true → r.latched ≡ false → IsSome r.image
 
 abbrev pub AreTold : ℕ → List Row → Type 0

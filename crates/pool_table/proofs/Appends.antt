@@ -19,9 +19,9 @@ use Rattle.trail.specs.Calls.{held_after, newest_fix, open_fixes}
 use Rattle.trail.specs.History.{home}
 use Rattle.trail.specs.Kinds.{Placing, departure_in}
 use Rattle.trail.specs.Trails.{Opening, caller_of, mark}
-use Rattle.trail_laws.specs.Accounts.{place_of, seen_by, with_event}
+use Rattle.trail_laws.specs.Accounts.{event_place, seen_by, with_event}
 use Rattle.trail_laws.specs.Adding.{IsCalling, MayAdd, MayNote, next_entry, next_note}
-use Rattle.trail_laws.specs.SoFar.{AreAlone, AreTrueAlone, IsFree, IsLawfulSoFar, IsTrueBy, is_of_clean}
+use Rattle.trail_laws.specs.SoFar.{AreAlone, AreTrueAlone, IsFixedByNone, IsLawfulSoFar, IsTrueBy, is_of_clean}
 use Rattle.trail_laws.specs.Ending.{AreEndedSoFar, FollowsNewest, below_newest}
 use Rattle.trail_laws.proofs.Adding.{entry_added, note_added}
 use Rattle.trail_laws.proofs.Following.{AreOthers, ended_entry, ended_note}
@@ -33,7 +33,7 @@ use Rattle.pool_table.specs.declared.view.View.{View}
 use Rattle.pool_table.specs.Seen.{DeskSeen}
 use Rattle.pool_table.specs.Views.{appended, fixes_of, noted}
 use Rattle.pool_table.specs.Frames.{counted, fixes_in}
-use Rattle.pool_table.specs.Kept.{fixed_in, IsLogged, IsNewestOf, IsRested, Kept}
+use Rattle.pool_table.specs.Kept.{fixed_in, IsLoggedEvent, IsNewestOf, IsRested, Kept}
 use Rattle.pool_table.specs.Logged.{KnowsMore}
 use Rattle.pool_table.specs.Steps.{IsFoundOn, MayMake, MayShow}
 use Rattle.pool_table.specs.Told.{tells_append, tells_note}
@@ -72,7 +72,7 @@ module _ (D : Type 0) (seen : D → DeskSeen) (start : DeskSeen) where
   M = Me (Slot D) View
 
   -- Nobody has fixed a page in whose frame no fix is counted.
-  pub free_page : (s : St) (r : Kept seen start s) (p : PageId) (f : ℕ) → home r.h p ≡ Some f → counted r.frames f ≡ 0 → IsFree r.accounts p
+  pub free_page : (s : St) (r : Kept seen start s) (p : PageId) (f : ℕ) → home r.h p ≡ Some f → counted r.frames f ≡ 0 → IsFixedByNone r.accounts p
   free_page s r p f is no_fix c = cases (nat_lt c r.next) refl
     where
       given : c < r.next → newest_fix (open_fixes (r.accounts c)) p ≡ None
@@ -125,7 +125,7 @@ module _ (D : Type 0) (seen : D → DeskSeen) (start : DeskSeen) where
       → MayMake start.opening start.pages me.0.seen old me.0.mine me.0.number n kind → IsFoundOn me.0.seen old (event.Entry (next_entry start.opening.first me.0.seen me.0.number n kind))
       → MayShow start.opening me.0.seen (next_entry start.opening.first me.0.seen me.0.number n kind ∷ me.0.seen) old g (fixes_of me.0)
       (held_after (event.Entry (next_entry start.opening.first me.0.seen me.0.number n kind)) (fixes_of me.0))
-      → KnowsMore me.0.redo (Some k) → IsLogged (Some k) (event.Entry (next_entry start.opening.first me.0.seen me.0.number n kind))
+      → KnowsMore me.0.redo (Some k) → IsLoggedEvent (Some k) (event.Entry (next_entry start.opening.first me.0.seen me.0.number n kind))
       → AreOthers (event.Entry (next_entry start.opening.first me.0.seen me.0.number n kind)) (below_newest me.0.seen)
       → (IsNewestOf me.0.number me.0.seen → FollowsNewest (λ c. event.Entry (next_entry start.opening.first me.0.seen me.0.number n kind) ∷ me.0.mine) (Some (next_entry start.opening.first me.0.seen me.0.number n kind)) me.0.seen)
       → Allows (Kept seen start) slots id me 0 (λ _. mark start.opening.first me.0.seen + 1)
@@ -141,12 +141,12 @@ module _ (D : Type 0) (seen : D → DeskSeen) (start : DeskSeen) where
       let rested : IsRested r.accounts v.seen (get_or s.words 1 0) = subst (λ (l : List Entry). IsRested r.accounts l (get_or s.words 1 0)) (sym mine.2) r.rested in
       let found' : IsFoundOn r.h r.frames x = subst (λ (y : List Entry × Plain). IsFoundOn y.0 y.1 x) (λ i. (mine.2 i, olds i)) found in
       let may' : MayMake o start.pages v.seen old (r.accounts v.number) v.number n kind = subst (λ (l : List Event). MayMake o start.pages v.seen old l v.number n kind) (sym own.events) may in
-      let below : (d : ℕ) → AllByRecursion (λ y. place_of y < e.place) (r.accounts d) = λ d. all_below (mark o.first v.seen) e.place (r.accounts d) (omega arith) (so.places.each d).falling in
+      let below : (d : ℕ) → AllByRecursion (λ y. event_place y < e.place) (r.accounts d) = λ d. all_below (mark o.first v.seen) e.place (r.accounts d) (omega arith) (so.places.each d).falling in
       let added : MayAdd o start.pages v.seen r.accounts v.number n kind = record {
         together = may'.together;
         before = may'.before;
         kind = may'.kind;
-        still = some_more (departure_in kind) (λ (d : Placing). (home v.seen d.page ≡ Some d.frame) × (counted old d.frame ≡ 0)) (λ (d : Placing). IsFree r.accounts d.page)
+        still = some_more (departure_in kind) (λ (d : Placing). (home v.seen d.page ≡ Some d.frame) × (counted old d.frame ≡ 0)) (λ (d : Placing). IsFixedByNone r.accounts d.page)
             (λ d t. free_page s r d.page d.frame (ap (λ (l : List Entry). home l d.page) (sym mine.2) ∙ t.0) (ap (λ (l : Plain). counted l d.frame) (sym olds) ∙ t.1)) may'.unfixed;
         covered = may'.covered;
         causes = may'.causes;

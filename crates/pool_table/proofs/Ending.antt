@@ -26,8 +26,8 @@ use Rattle.pool_table.specs.declared.view.View.{View}
 use Rattle.pool_table.specs.Seen.{DeskSeen}
 use Rattle.pool_table.specs.Logged.{KnowsMore}
 use Rattle.pool_table.specs.Views.{account_of, accounts_if, accounts_of}
-use Rattle.pool_table.specs.Ending.{Ends, account_at}
-use Rattle.pool_table.specs.Kept.{parts_of, IsTrueAccount, Fits, Has, IsNewestOf, IsRested, Kept}
+use Rattle.pool_table.specs.Ending.{KnowsAll, account_at}
+use Rattle.pool_table.specs.Kept.{parts_of, IsTrueAccount, Fits, HasAccount, IsNewestOf, IsRested, Kept}
 use Rattle.pool_table.proofs.Lists.{total_two}
 use Rattle.pool_table.proofs.Closing.{same_ended}
 use Rattle.pool_table.proofs.Events.{logged_on}
@@ -71,14 +71,14 @@ module _ (D : Type 0) (seen : D → DeskSeen) (start : DeskSeen) where
       nobody_else : (j : ℕ) (u : View) → j ≢ id → get_elem? s.views j ≡ some u → u.parts ≡ 0
       nobody_else j u n there = let two = total_two parts_of s.views j id u v n there at in let w = r.whole in omega (arith, two, w, all)
 
-      empty : (j : ℕ) (u : View) → j ≢ id → get_elem? s.views j ≡ some u → Has c u → ⊥
+      empty : (j : ℕ) (u : View) → j ≢ id → get_elem? s.views j ≡ some u → HasAccount c u → ⊥
       empty j u n there has = let b = r.each j u there in let none = nobody_else j u n there in ⊎_elim
           (λ (t : (u.passes ≡ true) × (u.number ≡ c)). let some_part = (b.keeps.passes t.0).0 in absurd (omega (arith, none, some_part)))
           (λ (t : (i : ℕ) × (a : Account) × (get_elem? u.others i ≡ some a) × (a.number ≡ c)). absurd (some-ne-none t.1 (sym (sym (ap (λ (l : List Account). get_elem? l t.0) (b.keeps.idle none)) ∙ t.2)))) has
 
-      here : (c < r.next) → Has c v
+      here : (c < r.next) → HasAccount c v
       here lt = let h = r.laws.owned c lt in dite (ℕ_discrete (r.seat c) id)
-          (λ e. subst (λ (u : View). Has c u) (some-injective h.0 v (sym h.1 ∙ (ap (get_elem? s.views) e ∙ at))) h.2)
+          (λ e. subst (λ (u : View). HasAccount c u) (some-injective h.0 v (sym h.1 ∙ (ap (get_elem? s.views) e ∙ at))) h.2)
           (λ n. absurd (empty (r.seat c) h.0 n h.1 h.2))
 
       found : (b : Bool) → nat_lt c r.next ≡ b → ((i : ℕ) × (a : Account) × (get_elem? (accounts_of v) i ≡ some a) × (a.number ≡ c)) ⊎ (r.accounts c ≡ [])
@@ -95,7 +95,7 @@ module _ (D : Type 0) (seen : D → DeskSeen) (start : DeskSeen) where
 
   -- Where all parts were joined, the desk in its slot and that view have all.
   pub ends : (s : State (Slot D) View) → Kept seen start s → (id : ℕ) (v : View) → get_elem? s.views id ≡ some v → v.parts ≡ 64 → v.turn ≡ false
-      → (d : D) × (get_elem? s.homes 0 ≡ some (some (slot.Desk d))) × Ends start (seen d) v
+      → (d : D) × (get_elem? s.homes 0 ≡ some (some (slot.Desk d))) × KnowsAll start (seen d) v
   ends s r id v at all off =
       let free : get_or s.words 1 0 ≡ 0 = none_turned s r id v at all off (get_or s.words 1 0) refl in
       let at_rest : IsRested r.accounts r.h (get_or s.words 1 0) → FollowsNewest r.accounts None r.h = λ z. ⊎_elim (λ (x : FollowsNewest r.accounts None r.h). x) (λ (y : (k : ℕ) × (get_or s.words 1 0 ≡ k + 1) × IsNewestOf k r.h). let n = y.1 in absurd (omega (arith, n, free))) z in
@@ -107,7 +107,7 @@ module _ (D : Type 0) (seen : D → DeskSeen) (start : DeskSeen) where
         d,
         f.1,
         record {
-          home = record { history = refl; frames_are = refl; opening = home.opening; pages = home.pages; known_is = refl; rest = subst Rattle.pool_table.specs.Frames.IsAtRest (sym home.frames_are) home.rest };
+          home = record { history = refl; frames_are = refl; opening = home.opening; pages = home.pages; known_is = refl; rest = subst Rattle.pool_table.specs.Frames.AreFramesAtRest (sym home.frames_are) home.rest };
           lawful = subst (λ (l : List Entry). IsLawfulSoFar start.opening start.pages l mine) (sym home.history) (same_so_far start.opening start.pages r.h r.accounts mine is r.laws.so_far);
           callers = record { apart = all_apart v.passes refl; others = others_none (accounts_of v) };
           ended = subst (AreEnded mine None) (sym home.history) (same_ended None r.h r.accounts mine is (ended_all r.h r.accounts (at_rest r.rested) r.laws.ended));
@@ -118,7 +118,7 @@ module _ (D : Type 0) (seen : D → DeskSeen) (start : DeskSeen) where
       )
 
 -- What is merged from that history and these accounts is a lawful trail, and each caller's own events in it are its account's.
-pub merges : (start d : DeskSeen) (v : View) (past : List Event) → Ends start d v → IsTrailOf start.opening.first d.history (account_at (accounts_of v)) past → ((c : ℕ) → IsAnswered start.opening d.history c (account_at (accounts_of v) c))
+pub merges : (start d : DeskSeen) (v : View) (past : List Event) → KnowsAll start d v → IsTrailOf start.opening.first d.history (account_at (accounts_of v)) past → ((c : ℕ) → IsAnswered start.opening d.history c (account_at (accounts_of v) c))
     → IsLawfulTrail start.opening (record { first = start.opening.first; events = reverse past }) × ((c : ℕ) → own c past ≡ account_at (accounts_of v) c)
 merges start d v past e merged done = (
   merged_lawful start.opening start.pages d.history (account_at (accounts_of v)) past merged e.lawful e.words (record { answered = done; followed = e.ended }),
@@ -126,7 +126,7 @@ merges start d v past e merged done = (
 )
 
 -- Of two passes with different numbers each has its own events in the trail.
-pub two_merge : (start d : DeskSeen) (v : View) (a b : Account) (past : List Event) → accounts_of v ≡ a ∷ b ∷ [] → a.number ≢ b.number → Ends start d v
+pub two_merge : (start d : DeskSeen) (v : View) (a b : Account) (past : List Event) → accounts_of v ≡ a ∷ b ∷ [] → a.number ≢ b.number → KnowsAll start d v
     → IsTrailOf start.opening.first d.history (account_at (accounts_of v)) past → ((c : ℕ) → IsAnswered start.opening d.history c (account_at (accounts_of v) c))
     → IsLawfulTrail start.opening (record { first = start.opening.first; events = reverse past }) × (own a.number past ≡ a.mine) × (own b.number past ≡ b.mine)
 two_merge start d v a b past two apart e merged done =

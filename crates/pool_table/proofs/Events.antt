@@ -21,7 +21,7 @@ use Rattle.trail_laws.specs.Accounts.{seen_by, with_event}
 use Rattle.trail_laws.specs.SoFar.{AreAlone, AreTrueAlone, AreTrueBy, IsTrueBy, is_of_clean}
 use Rattle.trail_laws.proofs.Places.{with_each}
 use Rattle.pool_table.specs.Logged.{HasGone, KnowsMore, log_end_in, record_in}
-use Rattle.pool_table.specs.Kept.{IsLogged}
+use Rattle.pool_table.specs.Kept.{IsLoggedEvent}
 
 pub off : {A : Type 0} → false ≡ true → A
 off e = absurd (true≢false (sym e))
@@ -110,7 +110,7 @@ knows_more P None new f more is = absurd is
 knows_more P (Some a) None f more is = absurd more
 knows_more P (Some a) (Some b) f more is = f a b more is
 
-pub logged_on : (old new : Option Known) (mine : List Event) → KnowsMore old new → AllByRecursion (IsLogged old) mine → AllByRecursion (IsLogged new) mine
+pub logged_on : (old new : Option Known) (mine : List Event) → KnowsMore old new → AllByRecursion (IsLoggedEvent old) mine → AllByRecursion (IsLoggedEvent new) mine
 logged_on old new [] more all = tt
 logged_on old new (event.Receipt r ∷ mine) more all = (tt, logged_on old new mine more all.1)
 logged_on old new (event.Entry e ∷ mine) more all = (

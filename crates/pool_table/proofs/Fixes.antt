@@ -6,7 +6,7 @@ use Rattle.trail.specs.declared.event.Entry.{Entry}
 use Rattle.trail.specs.declared.event.Held.{Held}
 use Rattle.trail.specs.History.{home}
 use Rattle.trail.specs.Calls.{newest_fix}
-use Rattle.trail.proofs.DirtyPages.{one_page}
+use Rattle.page_ids.proofs.Basics.{one_page}
 use Rattle.frame_words.specs.Plain.{Plain}
 use Rattle.pool_table.specs.Frames.{AreOpen, IsThere, fixes_in}
 

@@ -27,7 +27,7 @@ use Rattle.pool_table.specs.declared.view.View.{View}
 use Rattle.pool_table.specs.Seen.{DeskSeen}
 use Rattle.pool_table.specs.Views.{account_of, fixes_of, looked, with_turn, without_turn}
 use Rattle.pool_table.specs.Frames.{AreOpen, IsOfHome, counted, row_of}
-use Rattle.pool_table.specs.Kept.{parts_of, fixed_in, IsLogged, IsTrueAccount, Fits, Has, IsAtHome, IsNewestOf, IsRested, Kept}
+use Rattle.pool_table.specs.Kept.{parts_of, fixed_in, IsLoggedEvent, IsTrueAccount, Fits, HasAccount, IsAtHome, IsNewestOf, IsRested, Kept}
 use Rattle.pool_table.specs.Logged.{HasGone, KnowsMore}
 use Rattle.pool_table.specs.Steps.{MayShow}
 use Rattle.pool_table.specs.Told.{IsTaken, tells_give, tells_look, tells_take}
@@ -44,7 +44,7 @@ abbrev pub Holder : ℕ → (ℕ → ℕ) → List View → Type 0
 Holder t seat views = (k : ℕ) → t ≡ k + 1 → (v : View) × (get_elem? views (seat k) ≡ some v) × (v.turn ≡ true)
 
 abbrev pub Owners : ℕ → (ℕ → ℕ) → List View → Type 0
-Owners next seat views = (k : ℕ) → k < next → (v : View) × (get_elem? views (seat k) ≡ some v) × Has k v
+Owners next seat views = (k : ℕ) → k < next → (v : View) × (get_elem? views (seat k) ≡ some v) × HasAccount k v
 
 -- the holder still holds, where the changed view keeps its turn
 pub held_set : (t : ℕ) (seat : ℕ → ℕ) (views : List View) (id : ℕ) (v w : View) → get_elem? views id ≡ some v → w.turn ≡ v.turn → Holder t seat views → Holder t seat (set views id w)
@@ -54,10 +54,10 @@ held_set t seat views id v w at same holder k is = let h = holder k is in dite (
     (λ n. (h.0, set_else views id (seat k) w n ∙ h.1, h.2))
 
 -- and each account still is at its seat, where the changed view keeps its accounts
-pub owned_set : (next : ℕ) (seat : ℕ → ℕ) (views : List View) (id : ℕ) (v w : View) → get_elem? views id ≡ some v → ((k : ℕ) → Has k v → Has k w) → Owners next seat views → Owners next seat (set views id w)
+pub owned_set : (next : ℕ) (seat : ℕ → ℕ) (views : List View) (id : ℕ) (v w : View) → get_elem? views id ≡ some v → ((k : ℕ) → HasAccount k v → HasAccount k w) → Owners next seat views → Owners next seat (set views id w)
 owned_set next seat views id v w at same owned k below = let h = owned k below in dite (ℕ_discrete (seat k) id)
     (λ e. let here : h.0 ≡ v = some-injective h.0 v (sym h.1 ∙ (ap (get_elem? views) e ∙ at)) in
-    (w, subst (λ (j : ℕ). get_elem? (set views id w) j ≡ some w) (sym e) (set_at views id v w at), same k (subst (λ (u : View). Has k u) here h.2)))
+    (w, subst (λ (j : ℕ). get_elem? (set views id w) j ≡ some w) (sym e) (set_at views id v w at), same k (subst (λ (u : View). HasAccount k u) here h.2)))
     (λ n. (h.0, set_else views id (seat k) w n ∙ h.1, h.2))
 
 -- the turn is had by one view
@@ -95,7 +95,7 @@ module _ (D : Type 0) (seen : D → DeskSeen) (start : DeskSeen) where
   turn s = get_or s.words 1 0
 
   -- a step that changes no word, and gives a view with the same turn, parts, accounts and fixes
-  unmoved : (s : St) (r : Kept seen start s) (i id : ℕ) (cs : List (ℕ × Slot D)) (v w : View) → get_elem? s.views id ≡ some v → w.parts ≡ v.parts → w.turn ≡ v.turn → ((k : ℕ) → Has k v → Has k w)
+  unmoved : (s : St) (r : Kept seen start s) (i id : ℕ) (cs : List (ℕ × Slot D)) (v w : View) → get_elem? s.views id ≡ some v → w.parts ≡ v.parts → w.turn ≡ v.turn → ((k : ℕ) → HasAccount k v → HasAccount k w)
       → ((f : ℕ) → fixed_in f w ≡ fixed_in f v) → Fits r.known r.h r.frames (turn s) r.next r.maker r.accounts r.seat id w → Kept seen start (stepped s i (get_or s.words i 0) id cs w keeps)
   unmoved s r i id cs v w at parts same has fixed fits = subst (λ (ws : List ℕ). Kept seen start record { words = ws; homes = s.homes; views = set s.views id w }) (sym (set-get_or s.words i 0)) record {
     h = r.h;
@@ -185,7 +185,7 @@ module _ (D : Type 0) (seen : D → DeskSeen) (start : DeskSeen) where
       record {
         more = f.knows.seen.0;
         grown = home.history ∙ f.knows.seen.1;
-        home = record { history = refl; frames_are = refl; opening = home.opening; pages = home.pages; known_is = refl; rest = subst Rattle.pool_table.specs.Frames.IsAtRest (sym home.frames_are) home.rest };
+        home = record { history = refl; frames_are = refl; opening = home.opening; pages = home.pages; known_is = refl; rest = subst Rattle.pool_table.specs.Frames.AreFramesAtRest (sym home.frames_are) home.rest };
         log = ap (λ (x : Known). x.log) home.known_is ∙ r.of_log;
         redo = subst (λ (x : Known). KnowsMore v.redo (Some x)) (sym home.known_is) own.redo;
         frames = λ n. subst (λ (y : List Entry × Plain). IsOfHome start.opening y.0 (row_of y.1 n) n) (λ i. (sym home.history i, sym home.frames_are i)) (r.framed.homes n);
@@ -221,7 +221,7 @@ module _ (D : Type 0) (seen : D → DeskSeen) (start : DeskSeen) where
   -- An event of the pass that has the turn, an entry or a receipt.
   pub evented : (s : St) (r : Kept seen start s) (id : ℕ) (cs : List (ℕ × Slot D)) (v : View) (x : Event) (h' more : List Entry) (old g : Plain) (k : Known) (new : ℕ) → get_elem? s.views id ≡ some v → v.turn ≡ true
       → v.frames ≡ Some old → caller_of x ≡ v.number → h' ≡ more ++ v.seen → new ≡ mark start.opening.first h' → IsLawfulSoFar start.opening start.pages h' (with_event x r.accounts)
-      → AreTrueAlone h' (with_event x r.accounts) → MayShow start.opening v.seen h' old g (fixes_of v) (held_after x (fixes_of v)) → KnowsMore v.redo (Some k) → IsLogged (Some k) x
+      → AreTrueAlone h' (with_event x r.accounts) → MayShow start.opening v.seen h' old g (fixes_of v) (held_after x (fixes_of v)) → KnowsMore v.redo (Some k) → IsLoggedEvent (Some k) x
       → AreEndedSoFar (with_event x r.accounts) h' → IsRested (with_event x r.accounts) h' (turn s)
       → Kept seen start (stepped s 0 new id cs (record v { seen = h'; mine = x ∷ v.mine; frames = Some g; redo = Some k }) keeps)
   evented s r id cs v x h' more old g k new at has framed by longer marked so words show0 knows logged ended rested =

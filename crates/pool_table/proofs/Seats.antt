@@ -20,7 +20,7 @@ use Rattle.pool_table.specs.declared.view.View.{View}
 use Rattle.pool_table.specs.Seen.{DeskSeen}
 use Rattle.pool_table.specs.Views.{account_of, accounts_if, fixes_of, joined, made_pass, maker_after, nobody, numbers_of}
 use Rattle.pool_table.specs.Frames.{fixes_in}
-use Rattle.pool_table.specs.Kept.{parts_of, fixed_in, IsTrueAccount, Fits, Has, Kept}
+use Rattle.pool_table.specs.Kept.{parts_of, fixed_in, IsTrueAccount, Fits, HasAccount, Kept}
 use Rattle.pool_table.proofs.Lists.{at_append, each_new, each_two, in_first, in_second, set_at, total_new, total_set}
 use Rattle.pool_table.proofs.Numbers.{distinct_both, none_has}
 use Rattle.pool_table.proofs.Events.{off}
@@ -55,7 +55,7 @@ longer_end h xs ys true p q = q
 longer_end h xs ys false p q = p
 
 -- the accounts that a view brings have its numbers
-pub brought_has : (k : ℕ) (w : View) (b : Bool) → w.passes ≡ b → Has k w → (i : ℕ) × (a : Account) × (get_elem? (accounts_if b w) i ≡ some a) × (a.number ≡ k)
+pub brought_has : (k : ℕ) (w : View) (b : Bool) → w.passes ≡ b → HasAccount k w → (i : ℕ) × (a : Account) × (get_elem? (accounts_if b w) i ≡ some a) × (a.number ≡ k)
 brought_has k w true is has = ⊎_elim (λ (t : (w.passes ≡ true) × (w.number ≡ k)). (0, account_of w, refl, t.1))
     (λ (t : (i : ℕ) × (a : Account) × (get_elem? w.others i ≡ some a) × (a.number ≡ k)). (suc t.0, t.1, t.2, t.3)) has
 brought_has k w false is has = ⊎_elim (λ (t : (w.passes ≡ true) × (w.number ≡ k)). off (sym is ∙ t.0))
@@ -167,8 +167,8 @@ module _ (D : Type 0) (seen : D → DeskSeen) (start : DeskSeen) where
               (λ e. (made_pass v, ap (get_elem? (was ++ made_pass v ∷ [])) (seat_with-here r.seat v.number n k e) ∙ last_at was (made_pass v), inl (refl, sym e)))
               (λ e. let below : k < next = omega (arith, lt, e, number) in let h = r.laws.owned k below in dite (ℕ_discrete (r.seat k) id)
               (λ here. let same : h.0 ≡ v = some-injective h.0 v (sym h.1 ∙ (ap (get_elem? s.views) here ∙ at)) in
-              let has : Has k (maker_after v) = ⊎_elim (λ (x : (v.passes ≡ true) × (v.number ≡ k)). off (sym m.2 ∙ x.0))
-              (λ (x : (i : ℕ) × (a : Account) × (get_elem? v.others i ≡ some a) × (a.number ≡ k)). inr x) (subst (λ (u : View). Has k u) same h.2) in
+              let has : HasAccount k (maker_after v) = ⊎_elim (λ (x : (v.passes ≡ true) × (v.number ≡ k)). off (sym m.2 ∙ x.0))
+              (λ (x : (i : ℕ) × (a : Account) × (get_elem? v.others i ≡ some a) × (a.number ≡ k)). inr x) (subst (λ (u : View). HasAccount k u) same h.2) in
               (maker_after v, ap (get_elem? (was ++ made_pass v ∷ [])) (stays k below ∙ here) ∙ at_longer was (made_pass v ∷ []) id (maker_after v) (set_at s.views id v (maker_after v) at), has))
               (λ apart. (h.0, ap (get_elem? (was ++ made_pass v ∷ [])) (stays k below) ∙ at_longer was (made_pass v ∷ []) (r.seat k) h.0 (set_else s.views id (r.seat k) (maker_after v) apart ∙ h.1), h.2)));
         };
@@ -262,12 +262,12 @@ module _ (D : Type 0) (seen : D → DeskSeen) (start : DeskSeen) where
           later = r.laws.later;
           owned = λ k lt. let h = r.laws.owned k lt in dite (ℕ_discrete (r.seat k) other)
               (λ e. let same : h.0 ≡ w = some-injective h.0 w (sym h.1 ∙ (ap (get_elem? s.views) e ∙ back)) in
-              let b = brought_has k w w.passes refl (subst (λ (u : View). Has k u) same h.2) in let i = in_second v.others (accounts_if w.passes w) b.1 b.0 b.2 in
+              let b = brought_has k w w.passes refl (subst (λ (u : View). HasAccount k u) same h.2) in let i = in_second v.others (accounts_if w.passes w) b.1 b.0 b.2 in
               (both, ap (get_elem? views) (seat_moved-here r.seat other id k e) ∙ at_id, inr (i.0, b.1, i.1, b.3)))
               (λ m. dite (ℕ_discrete (r.seat k) id)
               (λ e. let same : h.0 ≡ v = some-injective h.0 v (sym h.1 ∙ (ap (get_elem? s.views) e ∙ at)) in
-              let has : Has k both = ⊎_elim (λ (x : (v.passes ≡ true) × (v.number ≡ k)). inl x)
-              (λ (x : (i : ℕ) × (a : Account) × (get_elem? v.others i ≡ some a) × (a.number ≡ k)). inr (x.0, x.1, in_first v.others (accounts_if w.passes w) x.1 x.0 x.2, x.3)) (subst (λ (u : View). Has k u) same h.2) in
+              let has : HasAccount k both = ⊎_elim (λ (x : (v.passes ≡ true) × (v.number ≡ k)). inl x)
+              (λ (x : (i : ℕ) × (a : Account) × (get_elem? v.others i ≡ some a) × (a.number ≡ k)). inr (x.0, x.1, in_first v.others (accounts_if w.passes w) x.1 x.0 x.2, x.3)) (subst (λ (u : View). HasAccount k u) same h.2) in
               (both, ap (get_elem? views) (seat_moved-else r.seat other id k id e (λ e. apart (sym e))) ∙ at_id, has))
               (λ n. (h.0, unmoved k (r.seat k) h.0 refl n m h.1, h.2)));
         };

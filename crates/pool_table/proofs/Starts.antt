@@ -10,7 +10,7 @@ use Rattle.pool_table.specs.declared.view.Slot.TheVariants as slot
 use Rattle.pool_table.specs.declared.view.View.{View}
 use Rattle.pool_table.specs.Seen.{DeskSeen}
 use Rattle.pool_table.specs.Views.{first_view, made_pass, maker_after}
-use Rattle.pool_table.specs.Frames.{IsNew}
+use Rattle.pool_table.specs.Frames.{AreNewFrames}
 use Rattle.pool_table.specs.Kept.{Fits, Kept}
 use Rattle.pool_table.proofs.Events.{off}
 use Rattle.pool_table.proofs.Seats.{makes_pass}
@@ -20,7 +20,7 @@ module _ (D : Type 0) (seen : D → DeskSeen) where
   abbrev pub first_state : D → State (Slot D) View
   first_state d = opening ((seen d).opening.first ∷ 0 ∷ []) (slot.Desk d ∷ []) first_view
 
-  pub starts : (d : D) → (seen d).history ≡ [] → IsNew (seen d).frames → Kept seen (seen d) (first_state d)
+  pub starts : (d : D) → (seen d).history ≡ [] → AreNewFrames (seen d).frames → Kept seen (seen d) (first_state d)
   starts d empty new = record {
     h = [];
     frames = (seen d).frames;
@@ -58,6 +58,6 @@ module _ (D : Type 0) (seen : D → DeskSeen) where
       one (suc j) v e = absurd (some-ne-none v (sym e))
 
   -- and with its first pass
-  pub starts_with_one : (d : D) → (seen d).history ≡ [] → IsNew (seen d).frames
+  pub starts_with_one : (d : D) → (seen d).history ≡ [] → AreNewFrames (seen d).frames
       → Kept seen (seen d) record { words = (seen d).opening.first ∷ 0 ∷ []; homes = some (slot.Desk d) ∷ []; views = maker_after first_view ∷ made_pass first_view ∷ [] }
   starts_with_one d empty new = makes_pass D seen (seen d) 0 first_view refl (omega arith) (first_state d) (starts d empty new) refl

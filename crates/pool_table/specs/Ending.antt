@@ -11,7 +11,7 @@ use Rattle.pool_table.specs.declared.view.Account.{Account}
 use Rattle.pool_table.specs.declared.view.View.{View}
 use Rattle.pool_table.specs.Seen.{DeskSeen}
 use Rattle.pool_table.specs.Views.{accounts_of, numbers_of}
-use Rattle.pool_table.specs.Kept.{IsAtHome, IsLogged}
+use Rattle.pool_table.specs.Kept.{IsAtHome, IsLoggedEvent}
 
 -- the events of the caller with this number among the accounts
 abbrev pub account_at : List Account → ℕ → List Event
@@ -20,11 +20,11 @@ account_at (a ∷ accounts) c = if a.number == c then a.mine else account_at acc
 
 -- The desk's history and the accounts of the view are all that the table had: they are lawful, their words are true wherever a caller is alone, and the log has
 -- what they need of it.
-pub record Ends (start d : DeskSeen) (v : View) : Type 0 where
+pub record KnowsAll (start d : DeskSeen) (v : View) : Type 0 where
   pub home : IsAtHome start d d.history d.frames d.known
   pub lawful : IsLawfulSoFar start.opening start.pages d.history (account_at (accounts_of v))
   pub callers : AreCallers (account_at (accounts_of v)) (numbers_of (accounts_of v))
   pub ended : AreEnded (account_at (accounts_of v)) None d.history
   pub words : AreTrueAlone d.history (account_at (accounts_of v))
   pub log : d.known.log ≡ start.known.log
-  pub logged : (i : ℕ) (a : Account) → get_elem? (accounts_of v) i ≡ some a → AllByRecursion (IsLogged (Some d.known)) a.mine
+  pub logged : (i : ℕ) (a : Account) → get_elem? (accounts_of v) i ≡ some a → AllByRecursion (IsLoggedEvent (Some d.known)) a.mine

@@ -31,7 +31,7 @@ pub record IsOfHome (o : Opening) (h : List Entry) (r : Row) (f : ℕ) : Type 0 
       → IfSome o.base (λ base. IfSome r.image (λ image. IfSome image (λ c. value (page_bytes o.config.page) base h r.page ≡ Some c)))
 
 -- between turns nothing is latched, visited or owed
-pub record IsAtRest (frames : Plain) : Type 0 where
+pub record AreFramesAtRest (frames : Plain) : Type 0 where
   pub unlatched : (f : ℕ) → (row_of frames f).latched ≡ false
   pub visit : frames.visit ≡ None
   pub owed : frames.owed ≡ None
@@ -41,15 +41,15 @@ abbrev pub IsThere : Plain → ℕ → Type 0
 IsThere frames f = ((row_of frames f).resident ≡ true) ⊎ (frames.owed ≡ Some f)
 
 -- an open fix is of a page in its home
-pub record IsOpen (h : List Entry) (frames : Plain) (x : Held) : Type 0 where
+pub record IsOpenFix (h : List Entry) (frames : Plain) (x : Held) : Type 0 where
   pub home_is : home h x.page ≡ Some x.frame
   pub there : IsThere frames x.frame
 
 abbrev pub AreOpen : List Entry → Plain → List Held → Type 0
-AreOpen h frames held = AllByRecursion (IsOpen h frames) held
+AreOpen h frames held = AllByRecursion (IsOpenFix h frames) held
 
 -- frames that never held a page
-pub record IsNew (frames : Plain) : Type 0 where
+pub record AreNewFrames (frames : Plain) : Type 0 where
   pub away : (f : ℕ) → (row_of frames f).resident ≡ false
   pub unheld : (f : ℕ) → held_of (row_of frames f) ≡ 0
-  pub rest : IsAtRest frames
+  pub rest : AreFramesAtRest frames

@@ -23,7 +23,7 @@ use Rattle.pool_table.specs.declared.view.View.{View}
 use Rattle.pool_table.specs.Seen.{DeskSeen}
 use Rattle.pool_table.specs.Logged.{KnowsMore, log_end_in, record_in}
 use Rattle.pool_table.specs.Views.{account_of, fixes_of, numbers_of}
-use Rattle.pool_table.specs.Frames.{AreOpen, IsAtRest, IsOfHome, counted, fixes_in, row_of}
+use Rattle.pool_table.specs.Frames.{AreOpen, AreFramesAtRest, IsOfHome, counted, fixes_in, row_of}
 
 -- what these views have together
 abbrev pub total : (View → ℕ) → List View → ℕ
@@ -42,9 +42,9 @@ pub record IsLoggedEntry (k : Option Known) (e : Entry) : Type 0 where
   pub kept : IfSome (record_in e.kind) (λ (p : Piece). IsSomeAnd k (λ (known : Known). Contains known.pieces p))
   pub ended : IfSome (log_end_in e.kind) (λ (end : ℕ). IsSomeAnd k (λ (known : Known). end ≤ known.end))
 
-abbrev pub IsLogged : Option Known → Event → Type 0
-IsLogged k (event.Entry e) = IsLoggedEntry k e
-IsLogged k (event.Receipt r) = Unit {0}
+abbrev pub IsLoggedEvent : Option Known → Event → Type 0
+IsLoggedEvent k (event.Entry e) = IsLoggedEntry k e
+IsLoggedEvent k (event.Receipt r) = Unit {0}
 
 -- An account, of the pass that the seat j keeps, is the truth. What is known of the log is at least what its pass knew.
 pub record IsTrueAccount (known : Known) (next : ℕ) (accounts : ℕ → List Event) (seat : ℕ → ℕ) (j : ℕ) (a : Account) : Type 0 where
@@ -52,7 +52,7 @@ pub record IsTrueAccount (known : Known) (next : ℕ) (accounts : ℕ → List E
   pub below : a.number < next
   pub events : accounts a.number ≡ a.mine
   pub redo : KnowsMore a.redo (Some known)
-  pub logged : AllByRecursion (IsLogged a.redo) a.mine
+  pub logged : AllByRecursion (IsLoggedEvent a.redo) a.mine
 
 -- what a view knows of the mark and the turn
 pub record Knows (h : List Entry) (frames : Plain) (known : Known) (t : ℕ) (v : View) : Type 0 where
@@ -60,7 +60,7 @@ pub record Knows (h : List Entry) (frames : Plain) (known : Known) (t : ℕ) (v 
   pub turn : v.turn ≡ true → (v.passes ≡ true) × (t ≡ v.number + 1) × (v.seen ≡ h) × (v.frames ≡ Some frames) × (v.redo ≡ Some known)
 
 -- which accounts a view has
-pub record Keeps (known : Known) (next maker : ℕ) (accounts : ℕ → List Event) (seat : ℕ → ℕ) (j : ℕ) (v : View) : Type 0 where
+pub record HasAccounts (known : Known) (next maker : ℕ) (accounts : ℕ → List Event) (seat : ℕ → ℕ) (j : ℕ) (v : View) : Type 0 where
   pub makes : v.makes ≡ true → (j ≡ maker) × (v.number ≡ next) × (v.passes ≡ false) × (v.others ≡ [])
   pub passes : v.passes ≡ true → (0 < v.parts) × IsTrueAccount known next accounts seat j (account_of v)
   pub unnamed : v.passes ≡ false → v.mine ≡ []
@@ -80,13 +80,13 @@ pub record IsBare (v : View) : Type 0 where
 
 pub record Fits (known : Known) (h : List Entry) (frames : Plain) (t next maker : ℕ) (accounts : ℕ → List Event) (seat : ℕ → ℕ) (j : ℕ) (v : View) : Type 0 where
   pub knows : Knows h frames known t v
-  pub keeps : Keeps known next maker accounts seat j v
+  pub keeps : HasAccounts known next maker accounts seat j v
   pub fixes : AreOpen h frames (fixes_of v)
   pub bare : IsBare v
 
 -- the view has the account with this number
-abbrev pub Has : ℕ → View → Type 0
-Has k v = ((v.passes ≡ true) × (v.number ≡ k)) ⊎ ((i : ℕ) × (a : Account) × (get_elem? v.others i ≡ some a) × (a.number ≡ k))
+abbrev pub HasAccount : ℕ → View → Type 0
+HasAccount k v = ((v.passes ≡ true) × (v.number ≡ k)) ⊎ ((i : ℕ) × (a : Account) × (get_elem? v.others i ≡ some a) × (a.number ≡ k))
 
 -- the newest entry is this caller's
 abbrev pub IsNewestOf : ℕ → List Entry → Type 0
@@ -99,11 +99,11 @@ IsRested accounts h t = FollowsNewest accounts None h ⊎ ((k : ℕ) × (t ≡ k
 
 -- The history and the accounts are lawful, each entry but the newest has what it needs behind it, and each number that was given has its account at its seat; the
 -- others have none.
-pub record AreLawful (start : DeskSeen) (h : List Entry) (next : ℕ) (accounts : ℕ → List Event) (seat : ℕ → ℕ) (views : List View) : Type 0 where
+pub record AreAccounts (start : DeskSeen) (h : List Entry) (next : ℕ) (accounts : ℕ → List Event) (seat : ℕ → ℕ) (views : List View) : Type 0 where
   pub so_far : IsLawfulSoFar start.opening start.pages h accounts
   pub ended : AreEndedSoFar accounts h
   pub later : (k : ℕ) → next ≤ k → accounts k ≡ []
-  pub owned : (k : ℕ) → k < next → (v : View) × (get_elem? views (seat k) ≡ some v) × Has k v
+  pub owned : (k : ℕ) → k < next → (v : View) × (get_elem? views (seat k) ≡ some v) × HasAccount k v
 
 -- The frames have the fixes that are open, and what the history says.
 pub record AreFrames (start : DeskSeen) (h : List Entry) (frames : Plain) (views : List View) : Type 0 where
@@ -117,7 +117,7 @@ pub record IsAtHome (start d : DeskSeen) (h : List Entry) (frames : Plain) (know
   pub opening : d.opening ≡ start.opening
   pub pages : d.pages ≡ start.pages
   pub known_is : d.known ≡ known
-  pub rest : IsAtRest frames
+  pub rest : AreFramesAtRest frames
 
 module _ {D : Type 0} (seen : D → DeskSeen) (start : DeskSeen) where
   -- One history, whose last place is the mark. Without a turn the desk is in its slot; a turn is had by one view.
@@ -138,7 +138,7 @@ module _ {D : Type 0} (seen : D → DeskSeen) (start : DeskSeen) where
     pub seat : ℕ → ℕ
     pub turns : AreTurns h frames known seat s
     pub of_log : known.log ≡ start.known.log
-    pub laws : AreLawful start h next accounts seat s.views
+    pub laws : AreAccounts start h next accounts seat s.views
     pub rested : IsRested accounts h (slice_index s.words 1)
     pub framed : AreFrames start h frames s.views
     -- Words that were found are true wherever a caller is alone.

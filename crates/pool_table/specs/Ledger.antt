@@ -3,8 +3,8 @@ use Rattle.std.specs.Prelude.{◌≡◌, ◌+◌, ◌-◌, ℕ}
 use Rattle.pool_table.specs.declared.ledger.Mark.{Mark}
 use Rattle.pool_table.specs.declared.ledger.Share.{Share}
 
-abbrev pub HasTurn : Mark → ℕ → Type 0
-HasTurn m caller = m.turn ≡ caller + 1
+abbrev pub IsTurnOf : Mark → ℕ → Type 0
+IsTurnOf m caller = m.turn ≡ caller + 1
 
 abbrev pub advanced : Mark → Mark
 advanced m = record m { last = m.last + 1 }

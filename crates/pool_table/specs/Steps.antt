@@ -43,11 +43,11 @@ pub record MayMake (o : Opening) (pages : ℕ → ℕ) (h : List Entry) (frames 
   pub unfixed : IfSome (departure_in k) (λ (d : Placing). (home h d.page ≡ Some d.frame) × (counted frames d.frame ≡ 0))
 
 -- these are open fixes of pages in their homes, as many in each frame as it counts
-pub record AreAll (h : List Entry) (frames : Plain) (all : List Held) : Type 0 where
+pub record AreAllFixes (h : List Entry) (frames : Plain) (all : List Held) : Type 0 where
   pub opened : AreOpen h frames all
   pub sums : (f : ℕ) → counted frames f ≡ fixes_in all f
 
 -- the words that an event tells are those of its frames; a clean tells none
 pub record IsFoundOn (h : List Entry) (frames : Plain) (e : Event) : Type 0 where
-  pub found : (all : List Held) → AreAll h frames all → IsTrueOf h all e
+  pub found : (all : List Held) → AreAllFixes h frames all → IsTrueOf h all e
   pub clean : is_of_clean e ≡ true → (held : List Held) → IsTrueOf h held e

@@ -1,6 +1,6 @@
 //! The steps on plain data, without a table: what each of them decides.
 ghost use Rattle.std.specs.Prelude.{◌≡◌, ◌≢◌, ◌+◌, ◌-◌, ◌<◌, ◌++◌, ◌^◌, true, IfNone, IfSome, IfOk, OnErr, ⊤, vec_capacity, vec_len};
-ghost use Rattle.pool_table.specs.Ledger.{HasTurn, advanced, given_part, IsNewShare, taken_by};
+ghost use Rattle.pool_table.specs.Ledger.{IsTurnOf, advanced, given_part, IsNewShare, taken_by};
 
 use std::alloc::AllocError;
 
@@ -18,8 +18,8 @@ impl Mark {
     /// The place of a caller's next entry, which is marked then. Only the turn's holder has one.
     pub fn append(&mut self, caller: u32) -> Option<u64>
         requires room { self.old.last + 1 < 2 ^ 64 }
-        ensures some { IfSome result (λ place. HasTurn self.old caller × (place ≡ self.old.last + 1) × (self.new ≡ advanced self.old)) }
-        ensures none { IfNone result (¬ HasTurn self.old caller × (self.new ≡ self.old)) }
+        ensures some { IfSome result (λ place. IsTurnOf self.old caller × (place ≡ self.old.last + 1) × (self.new ≡ advanced self.old)) }
+        ensures none { IfNone result (¬ IsTurnOf self.old caller × (self.new ≡ self.old)) }
     {
         if self.turn == u64::from(caller) + 1 {
             self.last += 1;

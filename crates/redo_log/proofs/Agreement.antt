@@ -7,7 +7,7 @@ use Rattle.redo_log.specs.declared.view.Piece.{Piece}
 use Rattle.redo_log.specs.declared.view.Story.{Story}
 use Rattle.redo_log.specs.declared.view.View.{View}
 use Rattle.redo_log.specs.Story.{end_of, longer, piece_at}
-use Rattle.redo_log.specs.Marks.{words_of, IsSound, taken, told, appended, raised, Looks}
+use Rattle.redo_log.specs.Marks.{words_of, IsSoundStory, taken, told, appended, raised, Looks}
 use Rattle.redo_log.specs.Turns.{Agrees, IsTurn}
 
 none_more : (more : List ℕ) → length more ≡ 0 → more ≡ []

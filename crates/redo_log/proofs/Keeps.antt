@@ -8,7 +8,7 @@ use Rattle.redo_log.specs.declared.view.Piece.{Piece}
 use Rattle.redo_log.specs.declared.view.Story.{Story}
 use Rattle.redo_log.specs.declared.view.View.{View}
 use Rattle.redo_log.specs.Story.{end_of, longer, size_of, StandAll}
-use Rattle.redo_log.specs.Marks.{words_of, no_story, blank, first_view, Fits, IsSound, total, share_of, bytes_of, met_of, Kept, taken, left, keeper_of, again, shared, less, joined, looked, told, appended, begun, raised, Looks, Opens, Rises, Appends}
+use Rattle.redo_log.specs.Marks.{words_of, no_story, blank, first_view, Fits, IsSoundStory, total, share_of, bytes_of, met_of, Kept, taken, left, keeper_of, again, shared, less, joined, looked, told, appended, begun, raised, Looks, Opens, Rises, AppendsPiece}
 use Rattle.redo_log.proofs.Views.{each_set, each_new, each_two, total_set, total_new, part_le, has_all}
 use Rattle.redo_log.proofs.Pieces.{stand_all_more, stands_new, stand_all_append, size-append, same_bytes, none_stand}
 
@@ -81,7 +81,7 @@ looks by v x views r at =
             let long = ap (λ (s : Story). length s.bytes) mine in
             let count = ap (λ (s : Story). s.faults) mine in (
               seen r.story mine,
-              subst IsSound mine r.sound,
+              subst IsSoundStory mine r.sound,
               subst (λ (s : Story). StandAll s v.pieces) mine f.pieces,
               λ all.
                   let le = part_le share_of views by v at in
@@ -102,7 +102,7 @@ pub record IsNext (s t : Story) : Type 0 where
   pub end : end_of s ≤ end_of t
   pub durable : s.durable ≤ t.durable
   pub faults : s.faults ≤ t.faults
-  pub sound : IsSound t
+  pub sound : IsSoundStory t
   pub stand : (ps : List Piece) → StandAll s ps → StandAll t ps
 
 -- the keeper goes on with the story
@@ -156,7 +156,7 @@ told_fits by v t next lost keeper f = record {
 }
 
 pub appends : (by : ℕ) (v : View) (p : Piece) (words : List ℕ) → v.keeps ≡ true → p.start ≡ end_of v.story → words ≡ words_of (longer v.story p.bytes)
-    → 0 < length p.bytes → IsSound v.story → 0 < v.share + v.lost → Turns Kept by v (λ _. words) (Appends p)
+    → 0 < length p.bytes → IsSoundStory v.story → 0 < v.share + v.lost → Turns Kept by v (λ _. words) (AppendsPiece p)
 appends by v p words has is are long sound share =
     let t = longer v.story p.bytes in
     let len = length-append v.story.bytes p.bytes in
@@ -167,7 +167,7 @@ appends by v p words has is are long sound share =
       sound = record { low = sound.low; high = omega (arith, len, sound.high) };
       stand = stand_all_more v.story p.bytes;
     } in
-    goes_on by v (appended v p) t words (Appends p) has next (λ lost keeper f. let g = told_fits by v t next lost keeper f in record {
+    goes_on by v (appended v p) t words (AppendsPiece p) has next (λ lost keeper f. let g = told_fits by v t next lost keeper f in record {
       end = g.end;
       durable = g.durable;
       faults = g.faults;

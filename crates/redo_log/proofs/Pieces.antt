@@ -3,10 +3,10 @@ use Rattle.std.proofs.Common.{◌≡◌, ℕ, ◌+◌, ◌≤◌, ◌<◌, ◌++
 use Rattle.std.proofs.lemmas.List.{append-nil}
 use Rattle.redo_log.specs.declared.view.Piece.{Piece}
 use Rattle.redo_log.specs.declared.view.Story.{Story}
-use Rattle.redo_log.specs.Story.{end_of, longer, size_of, Stands, StandAll}
+use Rattle.redo_log.specs.Story.{end_of, longer, size_of, StandsInLog, StandAll}
 
 -- a piece stands still where more is put behind it
-pub stands_more : (s : Story) (more : List ℕ) (p : Piece) → Stands s p → Stands (longer s more) p
+pub stands_more : (s : Story) (more : List ℕ) (p : Piece) → StandsInLog s p → StandsInLog (longer s more) p
 stands_more s more p h = (h.0, h.1 ++ more, ap (λ l. l ++ more) h.2 ∙ append_assoc (h.0 ++ p.bytes) h.1 more, h.3, h.4)
 
 pub stand_all_more : (s : Story) (more : List ℕ) (ps : List Piece) → StandAll s ps → StandAll (longer s more) ps
@@ -14,7 +14,7 @@ stand_all_more s more [] all = tt
 stand_all_more s more (p ∷ ps) all = (stands_more s more p all.0, stand_all_more s more ps all.1)
 
 -- the piece that was put behind
-pub stands_new : (s : Story) (p : Piece) → p.start ≡ end_of s → 0 < length p.bytes → Stands (longer s p.bytes) p
+pub stands_new : (s : Story) (p : Piece) → p.start ≡ end_of s → 0 < length p.bytes → StandsInLog (longer s p.bytes) p
 stands_new s p is some = (s.bytes, [], sym (append-nil (s.bytes ++ p.bytes)), sym is, some)
 
 pub stand_all_append : (s : Story) (ps qs : List Piece) → StandAll s ps → StandAll s qs → StandAll s (ps ++ qs)

@@ -11,7 +11,7 @@ use Rattle.redo_log.specs.Story.{size_of, StandAll}
 use Rattle.redo_log.specs.Passes.{Known, LogOf}
 
 -- this view knows all that the pass knows
-pub record IsWithin (v : View) (p : Known) : Type 0 where
+pub record IsKnownBy (v : View) (p : Known) : Type 0 where
   pub end : p.end ≤ v.end
   pub durable : p.durable ≤ v.durable
   pub faults : p.faults ≤ v.faults
@@ -31,19 +31,19 @@ mets_of [] = 0
 mets_of (p ∷ ps) = p.met + mets_of ps
 
 -- a record that ends by this mark is kept at its start
-abbrev pub IsKeptBelow : ℕ → ℕ → Option Told → Piece → Type 0
-IsKeptBelow first mark told p = p.start + length p.bytes ≤ mark → IsKeptAt first p.bytes p.start told
+abbrev pub IsPieceKept : ℕ → ℕ → Option Told → Piece → Type 0
+IsPieceKept first mark told p = p.start + length p.bytes ≤ mark → IsKeptAt first p.bytes p.start told
 
 -- what a pass knows is so at the log's end
 pub record IsInEnd (first : ℕ) (disk : RedoSeen) (lsn mark : ℕ) (p : Known) : Type 0 where
   pub end : p.end ≤ lsn
   pub durable : p.durable ≤ mark
   pub faults : p.faults ≤ disk.faults
-  pub pieces : All (IsKeptBelow first mark disk.told) p.pieces
+  pub pieces : All (IsPieceKept first mark disk.told) p.pieces
 
 module _ {R : Type 0} (seen : R → RedoSeen) where
   -- these passes are all that the log had: each byte behind its opening is of a record of theirs, and each fault was met by one of them
-  pub record AreAll (log : LogOf R) (left : RedoEnd R) (passes : List Known) : Type 0 where
+  pub record AreAllPasses (log : LogOf R) (left : RedoEnd R) (passes : List Known) : Type 0 where
     pub bytes : left.end ≡ log.first + (seen log.opening).opened + sizes_of passes
     pub faults : (seen left.disk).faults ≡ mets_of passes
 

@@ -49,7 +49,7 @@ abbrev pub bytes_of : View → ℕ
 bytes_of v = size_of v.pieces
 
 -- a durable mark lies in its log
-pub record IsSound (s : Story) : Type 0 where
+pub record IsSoundStory (s : Story) : Type 0 where
   pub low : s.opened ≤ s.durable
   pub high : s.durable ≤ end_of s
 
@@ -60,7 +60,7 @@ pub record Kept (marks : List ℕ) (views : List View) : Type 0 where
   pub keeper : ℕ
   pub lost : ℕ
   pub words : marks ≡ words_of story
-  pub sound : IsSound story
+  pub sound : IsSoundStory story
   pub each : (j : ℕ) (v : View) → get_elem? views j ≡ some v → Fits story lost keeper j v
   pub shares : total share_of views + min 1 lost ≤ SHARES
   pub bytes : lost ≡ 0 → total bytes_of views ≡ length story.bytes
@@ -127,8 +127,8 @@ Opens v x y w = w ≡ begun v (slice_index y 0) (slice_index y 1) (slice_index y
 abbrev pub Rises : View → List ℕ → List ℕ → View → Type 0
 Rises v x y w = w ≡ raised v (slice_index y 1) (slice_index y 2)
 
-abbrev pub Appends : Piece → View → List ℕ → List ℕ → View → Type 0
-Appends p v x y w = w ≡ appended v p
+abbrev pub AppendsPiece : Piece → View → List ℕ → List ℕ → View → Type 0
+AppendsPiece p v x y w = w ≡ appended v p
 
 -- what a look at the words tells: the view has these marks then, which did not fall; and the keeper knows where the log stands
 pub record Looks (v : View) (x y : List ℕ) (w : View) : Type 0 where
@@ -138,5 +138,5 @@ pub record Looks (v : View) (x y : List ℕ) (w : View) : Type 0 where
   pub faults : v.faults ≤ w.faults
   pub high : w.durable ≤ w.end
   pub same : (w.keeps ≡ v.keeps) × (w.story ≡ v.story) × (w.pieces ≡ v.pieces) × (w.met ≡ v.met) × (w.share ≡ v.share) × (w.lost ≡ v.lost)
-  pub whole : v.keeps ≡ true → (w ≡ told v v.story) × IsSound v.story × StandAll v.story v.pieces
+  pub whole : v.keeps ≡ true → (w ≡ told v v.story) × IsSoundStory v.story × StandAll v.story v.pieces
       × (v.share ≡ SHARES → (bytes_of v ≡ length v.story.bytes) × (v.met ≡ v.story.faults))

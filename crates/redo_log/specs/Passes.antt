@@ -75,7 +75,7 @@ pub record IsShown (v : View) (upto : ℕ) : Type 0 where
   pub share : (v.share ≡ 0) × (v.lost ≡ 0)
 
 -- a pass of this log that knows its end, all durable, this count of faults, all of them its own, and no record, and has all shares
-pub record IsNew (of : TableId) (lsn count : ℕ) (p : Known) : Type 0 where
+pub record IsFirstPass (of : TableId) (lsn count : ℕ) (p : Known) : Type 0 where
   pub log : p.log ≡ of
   pub end : p.end ≡ lsn
   pub durable : p.durable ≡ lsn

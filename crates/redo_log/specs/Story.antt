@@ -16,8 +16,8 @@ abbrev pub piece_at : ℕ → List ℕ → Piece
 piece_at start bytes = record { start = start; bytes = bytes }
 
 -- the piece stands in the log at its start
-abbrev pub Stands : Story → Piece → Type 0
-Stands s p = (before after : List ℕ) × (s.bytes ≡ before ++ p.bytes ++ after) × (s.opened + length before ≡ p.start) × (0 < length p.bytes)
+abbrev pub StandsInLog : Story → Piece → Type 0
+StandsInLog s p = (before after : List ℕ) × (s.bytes ≡ before ++ p.bytes ++ after) × (s.opened + length before ≡ p.start) × (0 < length p.bytes)
 
 -- how many bytes these pieces have
 abbrev pub size_of : List Piece → ℕ
@@ -26,4 +26,4 @@ size_of (p ∷ ps) = length p.bytes + size_of ps
 
 abbrev pub StandAll : Story → List Piece → Type 0
 StandAll s [] = Unit {0}
-StandAll s (p ∷ ps) = Stands s p × StandAll s ps
+StandAll s (p ∷ ps) = StandsInLog s p × StandAll s ps

@@ -6,10 +6,10 @@ ghost use Rattle.redo_mark.specs.Records.{sealed};
 ghost use Rattle.redo_mark.specs.Logs.{IsSpan};
 ghost use Rattle.redo_log.specs.declared.view.TheConstants.{SHARES};
 ghost use Rattle.redo_log.specs.Story.{piece_at};
-ghost use Rattle.redo_log.specs.Passes.{GoesOn, MetFault, IsNew, IsIdle, known_of};
+ghost use Rattle.redo_log.specs.Passes.{GoesOn, MetFault, IsFirstPass, IsIdle, known_of};
 ghost use Rattle.redo_log.specs.Homes.{log_of};
 ghost use Rattle.redo_log.specs.Turns.{IsTurn, BeganAs};
-ghost use Rattle.redo_log.specs.Ends.{IsEndOf, IsInEnd, AreAll, shares_of};
+ghost use Rattle.redo_log.specs.Ends.{IsEndOf, IsInEnd, AreAllPasses, shares_of};
 
 use crate::passes::{Covered, Marks, RedoPass};
 use crate::tail::{Home, Tail};
@@ -17,7 +17,7 @@ use crate::view::{Cell, Seat};
 use crate::{steps, turns};
 use keyed_lock::{Loan, Lock};
 use page_ids::{LAST_LSN, OutOfMemory};
-use redo_mark::{CoverErr, Draft, LogSpent, Redo as Log, RedoDisk, RedoEnd, Span};
+use redo_mark::{CoverErr, Draft, Log, LogSpent, RedoDisk, RedoEnd, Span};
 use std::alloc::Global;
 use std::marker::Model;
 use std::snapshot::Snapshot;
@@ -66,7 +66,7 @@ fn open<R: RedoDisk, W: Wait>(
     first: u64,
 ) -> Result<(Redo<R>, RedoPass), (OutOfMemory, R)>
     requires limit { first + (R.seen disk).opened ≤ LAST_LSN }
-    ensures fresh { IfOk result (λ r. IsNew r.0.log (first + (R.seen disk).opened) (R.seen disk).faults r.1) }
+    ensures fresh { IfOk result (λ r. IsFirstPass r.0.log (first + (R.seen disk).opened) (R.seen disk).faults r.1) }
     ensures log { IfOk result (λ r. (r.0.first ≡ first) × (r.0.opening ≡ disk)) }
     ensures err { IfErr result (λ e. e.1 ≡ disk) }
 {
@@ -74,7 +74,7 @@ fn open<R: RedoDisk, W: Wait>(
     let Ok((cell, mut seat)) = Cell::ruled(alloc, [0, 0, 0]) else {
         return Err((OutOfMemory, disk));
     };
-    let log = Log::start(alloc, disk, first)?;
+    let log = Log::start(alloc, disk, first);
     steps::open(&cell, rt, &mut seat, log.end(), log.faults());
     let keeper = steps::hand(&cell, &mut seat);
     let marks = Marks { cell };
@@ -100,7 +100,7 @@ impl<R: RedoDisk> Redo<R> {
         disk: R,
         first: u64,
     ) -> Result<(Redo<R>, RedoPass), StartErr<R>>
-        ensures fresh { IfOk result (λ r. IsNew r.0.log (first + (R.seen disk).opened) (R.seen disk).faults r.1) }
+        ensures fresh { IfOk result (λ r. IsFirstPass r.0.log (first + (R.seen disk).opened) (R.seen disk).faults r.1) }
         ensures log { IfOk result (λ r. (r.0.first ≡ first) × (r.0.opening ≡ disk)) }
         ensures limit { IfOk result (λ r. first + (R.seen disk).opened ≤ LAST_LSN) }
         ensures err { IfErr result (λ e. e.disk ≡ disk) }
@@ -272,7 +272,7 @@ impl<R: RedoDisk> Redo<R> {
         requires passes { All (λ p. p.log ≡ self.log) passes.items }
         ensures end { IsEndOf R.seen self result }
         ensures passes { All (IsInEnd self.first (R.seen result.disk) result.end result.durable) passes.items }
-        ensures all { shares_of passes.items ≡ SHARES → AreAll R.seen self result passes.items }
+        ensures all { shares_of passes.items ≡ SHARES → AreAllPasses R.seen self result passes.items }
     {
         let Redo { marks, lock } = self;
         let tail = lock.close(rt);

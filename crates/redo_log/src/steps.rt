@@ -3,7 +3,7 @@ ghost use Rattle.std.specs.Prelude.{◌≡◌, ◌≤◌, ◌<◌, ◌+◌, ◌+
 ghost use Rattle.crossbeam_utils.specs.Seq.{cell_view};
 ghost use Rattle.redo_mark.specs.Records.{sealed};
 ghost use Rattle.redo_log.specs.Story.{end_of, longer, piece_at};
-ghost use Rattle.redo_log.specs.Marks.{IsSound, Looks, words_of, first_view, taken, left, keeper_of, again, shared, less, joined, appended, begun, raised};
+ghost use Rattle.redo_log.specs.Marks.{IsSoundStory, Looks, words_of, first_view, taken, left, keeper_of, again, shared, less, joined, appended, begun, raised};
 
 use crate::view::{Append, Appended, Cell, Keeper, Look, Mark, Open, Passes, Seat, Shares, Whole};
 use redo_mark::Draft;
@@ -43,7 +43,7 @@ pub(crate) fn append<W: Wait>(
     requires keeps { (cell_view seat.old).keeps ≡ true }
     requires start { start ≡ end_of (cell_view seat.old).story }
     requires words { words ≡ words_of (longer (cell_view seat.old).story (sealed draft.value start)) }
-    requires sound { IsSound (cell_view seat.old).story }
+    requires sound { IsSoundStory (cell_view seat.old).story }
     requires share { 0 < (cell_view seat.old).share + (cell_view seat.old).lost }
     ensures cell { seat.new.table_id ≡ seat.old.table_id }
     ensures view { cell_view seat.new ≡ appended (cell_view seat.old) (piece_at start (sealed draft.value start)) }
@@ -65,7 +65,7 @@ fn append_piece<W: Wait, E: Appended>(
     requires keeps { (cell_view seat.old).keeps ≡ true }
     requires start { start ≡ end_of (cell_view seat.old).story }
     requires words { words ≡ words_of (longer (cell_view seat.old).story (sealed draft.value start)) }
-    requires sound { IsSound (cell_view seat.old).story }
+    requires sound { IsSoundStory (cell_view seat.old).story }
     requires share { 0 < (cell_view seat.old).share + (cell_view seat.old).lost }
     ensures cell { seat.new.table_id ≡ seat.old.table_id }
     ensures view { cell_view seat.new ≡ appended (cell_view seat.old) E.piece }

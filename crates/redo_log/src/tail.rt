@@ -5,7 +5,7 @@ ghost use Rattle.crossbeam_utils.specs.Seq.{cell_view};
 use crate::passes::Marks;
 use crate::view::Seat;
 use keyed_lock::Keyed;
-use redo_mark::{Redo, RedoDisk};
+use redo_mark::{Log, RedoDisk};
 use std::marker::Model;
 use std::snapshot::Snapshot;
 
@@ -20,7 +20,7 @@ pub struct Home<R> {
 /// A log, with the records that aren't durable, and the keeper's view.
 #[derive(Drop)]
 pub struct Tail<R: RedoDisk> {
-    log: Redo<R>,
+    log: Log<R>,
     keeper: Seat,
 }
 
@@ -45,7 +45,7 @@ impl<R: RedoDisk> Keyed<Home<R>> for Tail<R> {
 
 impl<R: RedoDisk> Tail<R> {
     /// Puts both together.
-    pub(crate) fn of(log: Redo<R>, keeper: Seat) -> Tail<R>
+    pub(crate) fn of(log: Log<R>, keeper: Seat) -> Tail<R>
         requires { keeper.me.1 ≡ [] }
         ensures { (result.state ≡ log) × (result.cell ≡ keeper.table_id) × (result.keeper ≡ cell_view keeper) }
     {
@@ -53,7 +53,7 @@ impl<R: RedoDisk> Tail<R> {
     }
 
     /// The log, and the keeper's view.
-    pub(crate) fn parts(self) -> (Redo<R>, Seat)
+    pub(crate) fn parts(self) -> (Log<R>, Seat)
         ensures log { result.0 ≡ self.state }
         ensures keeper { (result.1.table_id ≡ self.cell) × (cell_view result.1 ≡ self.keeper) × (result.1.me.1 ≡ []) }
     {

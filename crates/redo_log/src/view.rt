@@ -99,9 +99,9 @@ pub(crate) struct Append<E> {
 }
 
 impl<E: Appended> Outcome<[u64; 3], View> for Append<E> {
-    ghost use Rattle.redo_log.specs.Marks.{Appends};
+    ghost use Rattle.redo_log.specs.Marks.{AppendsPiece};
 
-    ghost then = { Appends E.piece };
+    ghost then = { AppendsPiece E.piece };
 }
 
 /// The keeper raises the durable mark and the count of faults.

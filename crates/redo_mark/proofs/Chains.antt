@@ -4,15 +4,15 @@ use Rattle.std.specs.Int.{w64, to_be_bytes}
 use Rattle.std.specs.declared.alloc.Global.{Global}
 use Rattle.std.proofs.lemmas.List.{append-nil, length-append}
 use Rattle.redo_mark.specs.Device.{Told}
-use Rattle.redo_mark.specs.Pending.{IsSettled, bytes_of, joined}
-use Rattle.redo_mark.specs.Records.{Fits, AllFit, AreRecords, head_of, record_of, records_of}
+use Rattle.redo_mark.specs.Pending.{IsKeptBetween, bytes_of, joined}
+use Rattle.redo_mark.specs.Records.{FitsRecord, AllFitRecords, AreRecords, head_of, record_of, records_of}
 use Rattle.redo_mark.specs.declared.record.Change.{Change}
 use Rattle.redo_mark.proofs.Slices.{length-slice}
 
 pub length-record : (c : Change) (start : ℕ) → length (record_of c start) ≡ 21 + length c.bytes
 length-record c start = let l = length-append c.bytes (to_be_bytes w64 (start + length (head_of c) + 8)) in omega (arith, l)
 
-fits_more : (cs : List Change) (c : Change) → AllFit cs → Fits c → AllFit (cs ++ c ∷ [])
+fits_more : (cs : List Change) (c : Change) → AllFitRecords cs → FitsRecord c → AllFitRecords (cs ++ c ∷ [])
 fits_more [] c all fits = (fits, tt)
 fits_more (d ∷ ds) c all fits = (all.0, fits_more ds c all.1 fits)
 
@@ -30,7 +30,7 @@ records_more (d ∷ ds) c start =
     ∙ ap (λ k. record_of d start ++ records_of ds next ++ record_of c k) end
 
 -- a record that is put at the end of records
-pub chain_more : (start end : ℕ) (bytes : List ℕ) (c : Change) → AreRecords start bytes → Fits c → start + length bytes ≡ end → AreRecords start (bytes ++ record_of c end)
+pub chain_more : (start end : ℕ) (bytes : List ℕ) (c : Change) → AreRecords start bytes → FitsRecord c → start + length bytes ≡ end → AreRecords start (bytes ++ record_of c end)
 chain_more start end bytes c are fits is =
     let place : end ≡ start + length (records_of are.0 start) = sym is ∙ ap (λ l. start + length l) are.2 in (
       are.0 ++ c ∷ [],
@@ -39,7 +39,7 @@ chain_more start end bytes c are fits is =
     )
 
 pub whole_appended : (first durable end opened : ℕ) (told : Option Told) (pending new : List (Vec ℕ Global)) (c : Change)
-    → first + opened ≤ durable → end ≡ durable + length (joined pending) → IfSome told (IsSettled opened (durable - first)) → Fits c
+    → first + opened ≤ durable → end ≡ durable + length (joined pending) → IfSome told (IsKeptBetween opened (durable - first)) → FitsRecord c
     → joined new ≡ joined pending ++ record_of c end
     → IfSome (bytes_of opened (durable - first) told pending) (AreRecords (first + opened))
     → IfSome (bytes_of opened (durable - first) told new) (AreRecords (first + opened))

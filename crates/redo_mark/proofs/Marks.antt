@@ -5,8 +5,8 @@ use Rattle.std.proofs.lemmas.Grind.{flat_map-append}
 use Rattle.std.specs.declared.alloc.Global.{Global}
 use Rattle.redo_mark.specs.Device.{Told, Tells, IsOpening}
 use Rattle.redo_mark.specs.Records.{sealed}
-use Rattle.redo_mark.specs.Logs.{Seen, Grows, IsLater, IsLonger, IsMeasured, Holds, IsKept, IsAllKept, IsKeptAt}
-use Rattle.redo_mark.specs.Pending.{IsGrown, IsLog, IsSettled, IsUncovered, IsMadeDurable, bytes_of, joined}
+use Rattle.redo_mark.specs.Logs.{Seen, Grows, IsGrown, IsLater, IsLonger, IsMeasured, Holds, IsKept, IsAllKept, IsKeptAt}
+use Rattle.redo_mark.specs.Pending.{IsLog, IsKeptBetween, OnlyWroteBetween, IsMadeDurable, bytes_of, joined}
 use Rattle.redo_mark.proofs.Telling.{known, some_is_not_none, tells_then}
 use Rattle.redo_mark.proofs.Slices.{take_within, front_of_more, same_slice, slice_more, length-slice, three_parts, front_with}
 
@@ -31,7 +31,7 @@ later_same old new first opened durable end faults bytes = record { first = firs
 
 -- what a log's fields keep
 pub kept_of_log : (first durable end opened faults : ℕ) (told : Option Told) (pending : List (Vec ℕ Global))
-    → first + opened ≤ durable → end ≡ durable + length (joined pending) → IfSome told (IsSettled opened (durable - first))
+    → first + opened ≤ durable → end ≡ durable + length (joined pending) → IfSome told (IsKeptBetween opened (durable - first))
     → IsKept (seen_of first durable end opened faults told pending) told
 kept_of_log first durable end opened faults None pending low ends settled = tt
 kept_of_log first durable end opened faults (Some t) pending low ends settled =
@@ -48,12 +48,12 @@ kept_of_log first durable end opened faults (Some t) pending low ends settled =
 
 -- what a log's fields measure
 pub measured_of_log : (first durable end opened faults : ℕ) (told : Option Told) (pending : List (Vec ℕ Global))
-    → first + opened ≤ durable → end ≡ durable + length (joined pending) → IfSome told (IsSettled opened (durable - first))
+    → first + opened ≤ durable → end ≡ durable + length (joined pending) → IfSome told (IsKeptBetween opened (durable - first))
     → IsMeasured (seen_of first durable end opened faults told pending)
 measured_of_log first durable end opened faults told pending low ends settled =
     record { low = low; high = omega (arith, ends); bytes = there told settled }
   where
-    there : (told : Option Told) → IfSome told (IsSettled opened (durable - first))
+    there : (told : Option Told) → IfSome told (IsKeptBetween opened (durable - first))
         → IfSome (bytes_of opened (durable - first) told pending) (λ bytes. first + opened + length bytes ≡ end)
     there None settled = tt
     there (Some t) settled =
@@ -62,7 +62,7 @@ measured_of_log first durable end opened faults told pending low ends settled =
         let sum = length-append slice (joined pending) in omega (arith, sum, len, low, ends)
 
 -- at its opening nothing is behind the end
-pub settled_fresh : (opened durable : ℕ) (told : Option Told) → durable ≡ opened → IfSome told (λ t. opened ≤ length t.kept) → IfSome told (IsSettled opened durable)
+pub settled_fresh : (opened durable : ℕ) (told : Option Told) → durable ≡ opened → IfSome told (λ t. opened ≤ length t.kept) → IfSome told (IsKeptBetween opened durable)
 settled_fresh opened durable None is inside = tt
 settled_fresh opened durable (Some t) is inside = record {
   long = omega (arith, is, inside);
@@ -80,16 +80,16 @@ pub sealed_size : (head : List ℕ) (start n : ℕ) → n ≡ length head → le
 sealed_size head start n len = length-append head _ ∙ ap (λ k. k + 8) (sym len)
 
 -- a record that was appended stands at the end
-pub holds_appended : (first durable end opened reach faults : ℕ) (opening told : Option Told) (pending new : List (Vec ℕ Global)) (piece : List ℕ)
-    → IsLog first durable end opened reach opening told pending → joined new ≡ joined pending ++ piece
+pub holds_appended : (first durable end opened reach faults : ℕ) (told : Option Told) (pending new : List (Vec ℕ Global)) (piece : List ℕ)
+    → IsLog first durable end opened reach told pending → joined new ≡ joined pending ++ piece
     → Holds (seen_of first durable (end + length piece) opened faults told new) piece end
-holds_appended first durable end opened reach faults opening told pending new piece log is = record {
+holds_appended first durable end opened reach faults told pending new piece log is = record {
   behind = omega (arith, log.low, log.ends);
   within = omega arith;
   there = there told log.settled;
 }
   where
-    there : (told : Option Told) → IfSome told (IsSettled opened (durable - first))
+    there : (told : Option Told) → IfSome told (IsKeptBetween opened (durable - first))
         → IfSome (bytes_of opened (durable - first) told new) (λ bytes. (before after : List ℕ) × (bytes ≡ before ++ piece ++ after) × (first + opened + length before ≡ end))
     there None settled = tt
     there (Some t) settled =
@@ -141,14 +141,14 @@ longer_appended first durable end opened faults told pending new piece is = reco
         ∙ sym (append_assoc (slice_range t.kept opened (durable - first)) (joined pending) piece))
 
 -- where nothing is durable by a cover, the bytes are as before
-pub bytes_uncovered : (opened durable from to : ℕ) (old new : Option Told) (pending : List (Vec ℕ Global)) → Tells old new (IsUncovered from to)
+pub bytes_uncovered : (opened durable from to : ℕ) (old new : Option Told) (pending : List (Vec ℕ Global)) → Tells old new (OnlyWroteBetween from to)
     → bytes_of opened durable new pending ≡ bytes_of opened durable old pending
 bytes_uncovered opened durable from to None new pending step = ap (λ o. bytes_of opened durable o pending) step
 bytes_uncovered opened durable from to (Some s) None pending step = absurd step
 bytes_uncovered opened durable from to (Some s) (Some t) pending step = ap (λ l. Some (slice_range l opened durable ++ joined pending)) step.kept
 
-pub settled_uncovered : (opened durable to : ℕ) (old new : Option Told) → opened ≤ durable → IfSome old (IsSettled opened durable) → Tells old new (IsUncovered durable to)
-    → IfSome new (IsSettled opened durable)
+pub settled_uncovered : (opened durable to : ℕ) (old new : Option Told) → opened ≤ durable → IfSome old (IsKeptBetween opened durable) → Tells old new (OnlyWroteBetween durable to)
+    → IfSome new (IsKeptBetween opened durable)
 settled_uncovered opened durable to None None le was step = tt
 settled_uncovered opened durable to None (Some t) le was step = absurd (some_is_not_none t step)
 settled_uncovered opened durable to (Some s) None le was step = absurd step
@@ -159,7 +159,7 @@ settled_uncovered opened durable to (Some s) (Some t) le was step = record {
 
 -- once the records are durable, the bytes are as before
 pub bytes_durable : (opened durable : ℕ) (old new : Option Told) (pending : List (Vec ℕ Global)) → opened ≤ durable → IfSome old (λ t. durable ≤ length t.written)
-    → IfSome old (IsSettled opened durable) → Tells old new (IsMadeDurable durable (joined pending))
+    → IfSome old (IsKeptBetween opened durable) → Tells old new (IsMadeDurable durable (joined pending))
     → bytes_of opened (durable + length (joined pending)) new [] ≡ bytes_of opened durable old pending
 bytes_durable opened durable None new pending le inside was step = ap (λ o. bytes_of opened (durable + length (joined pending)) o []) step
 bytes_durable opened durable (Some s) None pending le inside was step = absurd step
@@ -172,7 +172,7 @@ bytes_durable opened durable (Some s) (Some t) pending le inside was step =
 
 -- and so they are by the log's marks
 pub bytes_covered : (opened opened' first durable end : ℕ) (old new : Option Told) (pending none : List (Vec ℕ Global)) → opened' ≡ opened → first + opened ≤ durable
-    → end ≡ durable + length (joined pending) → none ≡ [] → IfSome old (λ t. durable - first ≤ length t.written) → IfSome old (IsSettled opened (durable - first))
+    → end ≡ durable + length (joined pending) → none ≡ [] → IfSome old (λ t. durable - first ≤ length t.written) → IfSome old (IsKeptBetween opened (durable - first))
     → Tells old new (IsMadeDurable (durable - first) (joined pending)) → bytes_of opened' (end - first) new none ≡ bytes_of opened (durable - first) old pending
 bytes_covered opened opened' first durable end old new pending none same low ends cleared inside was step =
     let to : end - first ≡ durable - first + length (joined pending) = omega (arith, low, ends) in
@@ -181,7 +181,7 @@ bytes_covered opened opened' first durable end old new pending none same low end
     ∙ bytes_durable opened (durable - first) old new pending (omega (arith, low)) inside was step
 
 pub settled_durable : (opened durable to : ℕ) (records : List ℕ) (old new : Option Told) → IfSome new (λ t. to ≤ length t.written)
-    → Tells old new (IsMadeDurable durable records) → IfSome new (IsSettled opened to)
+    → Tells old new (IsMadeDurable durable records) → IfSome new (IsKeptBetween opened to)
 settled_durable opened durable to records None None inside step = tt
 settled_durable opened durable to records None (Some t) inside step = absurd (some_is_not_none t step)
 settled_durable opened durable to records (Some s) None inside step = tt
@@ -199,10 +199,10 @@ grown_longer opened durable end to (Some s) (Some t) le grown = λ was.
     let g = grown was in record { front = g.front; kept = g.kept; exact = g.exact; short = omega (arith, g.short, le) }
 
 pub grown_uncovered : (opened durable end to : ℕ) (opening old new : Option Told) → opened ≤ durable → to ≤ end
-    → Tells opening old (λ s t. IsOpening opened s → IsGrown opened durable end s t) → Tells old new (IsUncovered durable to)
+    → Tells opening old (λ s t. IsOpening opened s → IsGrown opened durable end s t) → Tells old new (OnlyWroteBetween durable to)
     → Tells opening new (λ s t. IsOpening opened s → IsGrown opened durable end s t)
 grown_uncovered opened durable end to opening old new le fits =
-    tells_then (λ s t. IsOpening opened s → IsGrown opened durable end s t) (IsUncovered durable to) (λ s t. IsOpening opened s → IsGrown opened durable end s t)
+    tells_then (λ s t. IsOpening opened s → IsGrown opened durable end s t) (OnlyWroteBetween durable to) (λ s t. IsOpening opened s → IsGrown opened durable end s t)
     (λ s. Unit {0}) (λ t. Unit {0}) opening old new (known opening) (known old)
     (λ s t u a b p q was. let g = p was in record {
       front = take_within opened durable u.written t.written le q.written ∙ g.front;
@@ -233,7 +233,7 @@ grown_durable opened durable end records (Some s) (Some t) (Some u) le sum insid
 
 -- all that is kept, by the log's fields
 pub all_kept_of_log : (first durable end opened faults : ℕ) (opening told : Option Told) (pending : List (Vec ℕ Global))
-    → first + opened ≤ durable → IfSome told (IsSettled opened (durable - first))
+    → first + opened ≤ durable → IfSome told (IsKeptBetween opened (durable - first))
     → Tells opening told (λ s t. IsOpening opened s → IsGrown opened (durable - first) (end - first) s t)
     → IsAllKept opened opening (seen_of first durable end opened faults told pending) told
 all_kept_of_log first durable end opened faults None told pending low settled grown = grown

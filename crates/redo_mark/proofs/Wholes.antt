@@ -6,7 +6,7 @@ use Rattle.std.proofs.lemmas.List.{drop_at, take_at, drop-drop, length-append, g
 use Rattle.std.proofs.lemmas.List.Folds.{drop_split}
 use Rattle.std.proofs.lemmas.Nat.{from_be_bytes-to_be_bytes_2, from_be_bytes-to_be_bytes_4, from_be_bytes-to_be_bytes_8}
 use Rattle.page_ids.specs.Layout.{u64_at}
-use Rattle.redo_mark.specs.Records.{Fits, kind_byte, head_of, record_of}
+use Rattle.redo_mark.specs.Records.{FitsRecord, kind_byte, head_of, record_of}
 use Rattle.redo_mark.specs.Reading.{IsRecord, BeginsWith}
 use Rattle.redo_mark.specs.declared.record.Change.{Change}
 use Rattle.redo_mark.proofs.Fields.{AreBytes, field_2, field_4, field_8, number_8}
@@ -44,7 +44,7 @@ field_fits_2 a b x y = omega (arith, x, y)
 field_fits_4 : (a b c d : ℕ) → a < 256 → b < 256 → c < 256 → d < 256 → from_be_bytes w32 (a ∷ b ∷ c ∷ d ∷ []) < 2 ^ 32
 field_fits_4 a b c d x y z w = omega (arith, x, y, z, w)
 
-pub record_fits : (bytes : List ℕ) (start : ℕ) (c : Change) → AreBytes bytes → IsRecord bytes start c → Fits c
+pub record_fits : (bytes : List ℕ) (start : ℕ) (c : Change) → AreBytes bytes → IsRecord bytes start c → FitsRecord c
 record_fits bytes start c small r = record {
   space = rw (← r.space) (field_fits_4 _ _ _ _ (small 1) (small 2) (small 3) (small 4));
   page = rw (← r.page) (field_fits_4 _ _ _ _ (small 5) (small 6) (small 7) (small 8));
@@ -52,7 +52,7 @@ record_fits bytes start c small r = record {
   count = rw (← r.count) (field_fits_2 _ _ (small 11) (small 12));
 }
 
-pub fields_of_whole : (start : ℕ) (c : Change) (rest : List ℕ) → Fits c → start ≤ 2 ^ 63 → IsRecord (record_of c start ++ rest) start c
+pub fields_of_whole : (start : ℕ) (c : Change) (rest : List ℕ) → FitsRecord c → start ≤ 2 ^ 63 → IsRecord (record_of c start ++ rest) start c
 fields_of_whole start c rest fits limit =
     let n = length c.bytes in
     let end = to_be_bytes w64 (start + length (head_of c) + 8) in
@@ -71,7 +71,7 @@ fields_of_whole start c rest fits limit =
       end = number_8 whole (13 + n) _ _ _ _ _ _ _ _ rest tail ∙ from_be_bytes-to_be_bytes_8 (start + length (head_of c) + 8) (omega (arith, fits.count, limit)) ∙ ends;
     }
 
-pub fields_of : (bytes : List ℕ) (start : ℕ) (c : Change) → Fits c → start ≤ 2 ^ 63 → BeginsWith bytes (record_of c start) → IsRecord bytes start c
+pub fields_of : (bytes : List ℕ) (start : ℕ) (c : Change) → FitsRecord c → start ≤ 2 ^ 63 → BeginsWith bytes (record_of c start) → IsRecord bytes start c
 fields_of bytes start c fits limit whole = rw whole.1 (fields_of_whole start c whole.0 fits limit)
 
 pub bytes_of_all : (bytes : List ℕ) → All (λ b. b < 256) bytes → AreBytes bytes

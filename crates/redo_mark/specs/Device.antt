@@ -23,7 +23,7 @@ abbrev pub put_at : ℕ → List ℕ → List ℕ → List ℕ
 put_at at piece bytes = take at bytes ++ piece ++ drop (at + length piece) bytes
 
 -- a write: the piece stands at its place
-pub record IsPut (at : ℕ) (piece : List ℕ) (old new : Told) : Type 0 where
+pub record IsPieceWritten (at : ℕ) (piece : List ℕ) (old new : Told) : Type 0 where
   pub written : new.written ≡ put_at at piece old.written
   pub kept : new.kept ≡ old.kept
 

@@ -2,7 +2,7 @@
 use Rattle.std.specs.Prelude.{ℕ, List, [], ◌++◌, ◌≡◌, ◌≤◌, ◌+◌, ◌-◌, ◌^◌, length, take, Option, None, Some, IfSome, MatchOption, IsSomeAnd}
 use Rattle.page_ids.specs.Faults.{Rose}
 use Rattle.page_ids.specs.declared.limits.TheConstants.{LAST_LSN}
-use Rattle.redo_mark.specs.Device.{Told, Tells, IsOpening}
+use Rattle.redo_mark.specs.Device.{Told, RedoSeen, Tells, IsOpening}
 use Rattle.redo_mark.specs.Records.{AreRecords}
 use Rattle.redo_mark.specs.declared.record.Span.{Span}
 
@@ -93,6 +93,27 @@ pub record IsFault (old new before after : ℕ) : Type 0 where
   pub first : old ≤ before
   pub rose : Rose before after
   pub last : after ≤ new
+
+-- nothing but the log was written to a device since it held `s`
+pub record IsGrown (opened durable end : ℕ) (s t : Told) : Type 0 where
+  pub front : take opened t.written ≡ s.kept
+  pub kept : take opened t.kept ≡ s.kept
+  pub exact : length t.kept ≡ durable
+  pub short : length t.written ≤ end
+
+-- since this opening nothing but the log was written to its device
+abbrev pub HasGrown : Seen → RedoSeen → Option Told → Type 0
+HasGrown seen disk opening = Tells opening disk.told (λ s t. IsOpening disk.opened s
+    → IsGrown disk.opened (seen.durable - seen.first) (seen.end - seen.first) s t)
+
+-- and a step of the log leaves that so
+abbrev pub StaysGrown : Seen → RedoSeen → Seen → RedoSeen → Type 0
+StaysGrown old before new after = (opening : Option Told) → HasGrown old before opening → HasGrown new after opening
+
+-- a log and its device
+pub record LogState (R : Type 0) : Type 0 where
+  pub seen : Seen
+  pub disk : R
 
 -- a log, its device, and what that told at the opening
 pub record State (R : Type 0) : Type 0 where

@@ -28,7 +28,7 @@ IsHalfPut old new at piece before after =
     ⊎ ((new.wants ≡ risen old.wants) × (after ≡ before))
 
 -- one call more was made, and the list stays
-pub record IsCalled (old new : Counts) : Type 0 where
+pub record IsOneCall (old new : Counts) : Type 0 where
   pub failing : new.failing ≡ old.failing
   pub made : new.made ≡ risen old.made
 

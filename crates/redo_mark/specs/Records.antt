@@ -7,7 +7,7 @@ use Rattle.redo_mark.specs.declared.record.ChangeKind.TheVariants.{Put, Create}
 use Rattle.redo_mark.specs.declared.record.Change.{Change}
 
 -- the numbers of a change fit the fields of a record
-pub record Fits (c : Change) : Type 0 where
+pub record FitsRecord (c : Change) : Type 0 where
   pub space : c.page.space < 2 ^ 32
   pub page : c.page.page < 2 ^ 32
   pub at : c.at < 2 ^ 16
@@ -41,10 +41,10 @@ abbrev pub records_of : List Change → ℕ → List ℕ
 records_of [] start = []
 records_of (c ∷ cs) start = record_of c start ++ records_of cs (start + RECORD_BYTES + length c.bytes)
 
-abbrev pub AllFit : List Change → Type 0
-AllFit [] = Unit {0}
-AllFit (c ∷ cs) = Fits c × AllFit cs
+abbrev pub AllFitRecords : List Change → Type 0
+AllFitRecords [] = Unit {0}
+AllFitRecords (c ∷ cs) = FitsRecord c × AllFitRecords cs
 
 -- from this LSN on the bytes are whole records, and nothing else
 abbrev pub AreRecords : ℕ → List ℕ → Type 0
-AreRecords start bytes = (changes : List Change) × AllFit changes × (bytes ≡ records_of changes start)
+AreRecords start bytes = (changes : List Change) × AllFitRecords changes × (bytes ≡ records_of changes start)

@@ -2,7 +2,7 @@
 ghost use Rattle.std.specs.Prelude.{◌≡◌, ◌≤◌, ◌+◌, ◌^◌, length, OnOk, OnErr};
 ghost use Rattle.page_ids.specs.Faults.{IsCounted};
 ghost use Rattle.page_ids.specs.declared.limits.TheConstants.{LAST_LSN};
-ghost use Rattle.redo_mark.specs.Device.{RedoSeen, Tells, IsPut, IsTorn, IsSynced, IsSame, IsSized};
+ghost use Rattle.redo_mark.specs.Device.{RedoSeen, Tells, IsPieceWritten, IsTorn, IsSynced, IsSame, IsSized};
 
 use page_ids::Failed;
 
@@ -17,7 +17,7 @@ pub trait RedoDisk: Send + Drop {
     fn write_at(&mut self, at: u64, piece: &[u8]) -> Result<(), Failed>
         requires within { at ≤ (seen self.old).reach }
         requires limit { at + length piece.now ≤ LAST_LSN }
-        ensures put { OnOk result (Tells (seen self.old).told (seen self.new).told (IsPut at piece.now)) }
+        ensures put { OnOk result (Tells (seen self.old).told (seen self.new).told (IsPieceWritten at piece.now)) }
         ensures torn { OnErr result (Tells (seen self.old).told (seen self.new).told (IsTorn at (length piece.now))) }
         ensures reach { (seen self.old).reach ≤ (seen self.new).reach }
         ensures reached { OnOk result (at + length piece.now ≤ (seen self.new).reach) }

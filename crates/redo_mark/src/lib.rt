@@ -9,6 +9,7 @@
 
 pub mod calls;
 pub mod device;
+pub mod log;
 pub mod memory;
 pub mod reading;
 pub mod record;
@@ -16,6 +17,7 @@ pub mod redo;
 
 pub use calls::Calls;
 pub use device::RedoDisk;
+pub use log::Log;
 pub use memory::RedoMemory;
 pub use reading::{ChangeErr, read_change, records_are_whole};
 pub use record::{Change, ChangeKind, Draft, Span};

@@ -2,8 +2,8 @@
 ghost use Rattle.std.specs.Prelude.{◌≡◌, ◌≤◌, ◌↔◌, ◌+◌, ◌/◌, ◌^◌, if◌then◌else◌, Contains, Some, None, length, OnOk, OnErr, IsErr, vec_len};
 ghost use Rattle.page_ids.specs.Faults.{IsCounted};
 ghost use Rattle.page_ids.specs.declared.limits.TheConstants.{LAST_LSN};
-ghost use Rattle.redo_mark.specs.Device.{Told, Tells, IsPut, IsTorn, IsSynced, IsSame, IsAsOpened, put_at};
-ghost use Rattle.redo_mark.specs.Memory.{kept_of, told_of, risen, IsCalled, IsExact, IsHalfPut};
+ghost use Rattle.redo_mark.specs.Device.{Told, Tells, IsPieceWritten, IsTorn, IsSynced, IsSame, IsAsOpened, put_at};
+ghost use Rattle.redo_mark.specs.Memory.{kept_of, told_of, risen, IsOneCall, IsExact, IsHalfPut};
 
 use crate::calls::Calls;
 use crate::device::RedoDisk;
@@ -110,14 +110,14 @@ impl RedoDisk for RedoMemory {
         requires within { at ≤ length self.old.written.items }
         requires limit { at + length piece.now ≤ LAST_LSN }
         ensures put { OnOk result (Tells (told_of self.old.written.items self.old.kept)
-            (told_of self.new.written.items self.new.kept) (IsPut at piece.now)) }
+            (told_of self.new.written.items self.new.kept) (IsPieceWritten at piece.now)) }
         ensures torn { OnErr result (Tells (told_of self.old.written.items self.old.kept)
             (told_of self.new.written.items self.new.kept) (IsTorn at (length piece.now))) }
         ensures reach { length self.old.written.items ≤ length self.new.written.items }
         ensures reached { OnOk result (at + length piece.now ≤ length self.new.written.items) }
         ensures opened { self.new.opened ≡ self.old.opened }
         ensures counted { IsCounted self.old.calls.faults self.new.calls.faults result }
-        ensures called { IsCalled self.old.calls self.new.calls }
+        ensures called { IsOneCall self.old.calls self.new.calls }
         ensures exact { IsExact self.old.calls self.new.calls result }
         ensures half { OnErr result (IsHalfPut self.old.calls self.new.calls at piece.now
             self.old.written.items self.new.written.items) }
@@ -142,7 +142,7 @@ impl RedoDisk for RedoMemory {
         ensures reach { length self.old.written.items ≤ length self.new.written.items }
         ensures opened { self.new.opened ≡ self.old.opened }
         ensures counted { IsCounted self.old.calls.faults self.new.calls.faults result }
-        ensures called { IsCalled self.old.calls self.new.calls }
+        ensures called { IsOneCall self.old.calls self.new.calls }
         ensures exact { IsExact self.old.calls self.new.calls result }
         ensures listed { IsErr result ↔ Contains self.old.calls.failing (risen self.old.calls.made) }
         ensures wants { self.new.calls.wants ≡ self.old.calls.wants }

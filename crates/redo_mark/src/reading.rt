@@ -2,7 +2,7 @@
 ghost use Rattle.std.specs.Prelude.{◌≡◌, ◌≤◌, ◌<◌, ◌+◌, ◌^◌, ◌⊎◌, ◌↔◌, ℕ, List, All, length, IfOk, IfErr, Err, MatchResult};
 ghost use Rattle.page_ids.specs.Layout.{u32_at, u64_at};
 ghost use Rattle.page_ids.specs.declared.limits.TheConstants.{LAST_LSN, RECORD_BYTES};
-ghost use Rattle.redo_mark.specs.Records.{Fits, record_of};
+ghost use Rattle.redo_mark.specs.Records.{FitsRecord, record_of};
 ghost use Rattle.redo_mark.specs.Reading.{u16_at, IsRecord, IsNoRecord, HasEnd, BeginsWith};
 ghost use Rattle.redo_mark.specs.declared.record.Change.{Change};
 ghost use Rattle.redo_mark.specs.declared.reading.ChangeErr.{ChangeErr};
@@ -106,9 +106,9 @@ fn judge(bytes: &[u8], start: u64) -> Result<(ChangeKind, usize), ChangeErr>
 pub fn read_change(alloc: Global, bytes: &[u8], start: u64) -> Result<(Change, Span), ChangeErr>
     requires limit { start ≤ LAST_LSN }
     ensures record { IfOk result (λ r. IsRecord bytes.now start r.0) }
-    ensures whole { IfOk result (λ r. Fits r.0 × BeginsWith bytes.now (record_of r.0 start)) }
+    ensures whole { IfOk result (λ r. FitsRecord r.0 × BeginsWith bytes.now (record_of r.0 start)) }
     ensures span { IfOk result (λ r. (r.1.start ≡ start) × (r.1.end ≡ start + RECORD_BYTES + length r.0.bytes)) }
-    ensures exact { (c : Change) → Fits c → BeginsWith bytes.now (record_of c start)
+    ensures exact { (c : Change) → FitsRecord c → BeginsWith bytes.now (record_of c start)
         → MatchResult result (λ r. r.0 ≡ c) (λ e. e ≡ ChangeErr.OutOfMemory) }
     ensures refused { IfErr result (λ e. (e ≡ ChangeErr.OutOfMemory) ⊎ IsNoRecord bytes.now start e) }
     ensures named { (e : ChangeErr) → IsNoRecord bytes.now start e → result ≡ Err e }
@@ -132,5 +132,5 @@ pub fn read_change(alloc: Global, bytes: &[u8], start: u64) -> Result<(Change, S
 /// The fields at the front of bytes are those of a change's record exactly where the bytes begin with that record.
 pub fn records_are_whole()
     ensures { (bytes : List ℕ) (start : ℕ) (c : Change) → All (λ b. b < 256) bytes → start ≤ LAST_LSN
-        → (IsRecord bytes start c ↔ (Fits c × BeginsWith bytes (record_of c start))) }
+        → (IsRecord bytes start c ↔ (FitsRecord c × BeginsWith bytes (record_of c start))) }
 {}

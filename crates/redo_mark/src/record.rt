@@ -1,7 +1,7 @@
 //! Changes of pages, and their records.
 ghost use Rattle.std.specs.Prelude.{◌≡◌, IfOk, OnOk};
 ghost use Rattle.std.specs.Int.{w64, to_be_bytes};
-ghost use Rattle.redo_mark.specs.Records.{Fits, IsLoggable, head_of};
+ghost use Rattle.redo_mark.specs.Records.{FitsRecord, IsLoggable, head_of};
 ghost use Rattle.redo_mark.specs.Pending.{joined, IsDraft};
 
 use page_ids::{Bytes, OutOfMemory, PageId};
@@ -56,7 +56,7 @@ impl Model for Draft {
 fn head(alloc: Global, change: &Change) -> Result<Vec<u8>, OutOfMemory>
     requires loggable { IsLoggable change.now }
     ensures bytes { IfOk result (λ v. v.items ≡ head_of change.now) }
-    ensures fits { OnOk result (Fits change.now) }
+    ensures fits { OnOk result (FitsRecord change.now) }
 {
     let kind = match change.kind {
         ChangeKind::Put => 1,

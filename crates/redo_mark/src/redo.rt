@@ -1,28 +1,21 @@
-//! The log: its marks, its device, and the records that are not durable.
-//!
-//! Who says of it no more than `IsLater`, `Holds`, `IsSpan`, `IsFault` and the number of a `Covered` says nothing that another
-//! caller's appends and covers could break.
-ghost use Rattle.std.specs.Prelude.{◌≡◌, ◌≤◌, ◌<◌, ◌+◌, ◌++◌, ◌^◌, ℕ, List, length, OnOk, OnErr, IfOk, IfErr, IsOk, IsErr};
-ghost use Rattle.std.specs.Prelude.{Err, vec_len, vec_capacity};
-ghost use Rattle.std.specs.Int.{w64, to_be_bytes};
+//! The log of one caller, who has it to himself. What its device held at the start is remembered for contracts.
+ghost use Rattle.std.specs.Prelude.{◌≡◌, ◌≤◌, ◌<◌, ◌+◌, ◌^◌, ℕ, List, length, OnOk, OnErr, IfOk, IfErr, IsOk, IsErr, Err};
 ghost use Rattle.page_ids.specs.declared.limits.TheConstants.{LAST_LSN};
-ghost use Rattle.redo_mark.specs.Device.{Told, Tells, IsSynced, IsSame};
 ghost use Rattle.redo_mark.specs.Records.{sealed};
 ghost use Rattle.redo_mark.specs.Logs.{IsFresh, IsLater, IsLonger, IsMeasured, Holds, IsKept, IsAllKept, IsKeptAt, IsWhole, IsSpan, IsFault};
-ghost use Rattle.redo_mark.specs.Pending.{IsUncovered, IsMadeDurable, IsDraft, joined};
 
 use crate::device::RedoDisk;
+use crate::log::Log;
 use crate::record::{Draft, Span};
-use page_ids::{LAST_LSN, OutOfMemory};
+use page_ids::OutOfMemory;
 use std::alloc::Global;
-use std::collections::LinkedList;
 use std::marker::Model;
 use std::snapshot::Snapshot;
 
-/// Shows that the log is durable up to an LSN: the device keeps every byte of it below. Only `Redo::cover` makes one.
+/// Shows that the log is durable up to an LSN: the device keeps every byte of it below. Only `Log::cover` makes one.
 #[derive(Debug, Drop)]
 pub struct Covered {
-    upto: u64,
+    pub(crate) upto: u64,
 }
 
 impl Model for Covered {
@@ -65,128 +58,22 @@ pub struct RedoEnd<R: RedoDisk> {
     pub durable: u64,
 }
 
-/// The counts of faults before and after a device's call that failed.
-struct Fault {
-    before: u64,
-    after: u64,
-}
-
 /// The log on its device, with the records that are not durable.
 #[derive(Drop)]
 pub struct Redo<R: RedoDisk> {
-    disk: R,
+    log: Log<R>,
     /// The device as it was at the start, for contracts alone.
     opening: Snapshot<R>,
-    first: u64,
-    durable: u64,
-    end: u64,
-    pending: LinkedList<Vec<u8>>,
 }
 
 impl<R: RedoDisk> Model for Redo<R> {
-    ghost use Rattle.std.specs.Prelude.{◌+◌, ◌-◌};
-    ghost use Rattle.redo_mark.specs.Logs.{State};
-    ghost use Rattle.redo_mark.specs.Pending.{IsLog, bytes_of};
+    ghost use Rattle.redo_mark.specs.Logs.{State, HasGrown};
 
     ghost Value = { State R };
 
-    ghost view = { λ r. record {
-      seen = record {
-        first = r.first;
-        opened = r.first + (R.seen r.disk).opened;
-        durable = r.durable;
-        end = r.end;
-        faults = (R.seen r.disk).faults;
-        bytes = bytes_of (R.seen r.disk).opened (r.durable - r.first) (R.seen r.disk).told r.pending;
-      };
-      disk = r.disk;
-      opening = (R.seen r.opening.value).told;
-    } };
+    ghost view = { λ r. record { seen = r.log.seen; disk = r.log.disk; opening = (R.seen r.opening.value).told } };
 
-    ghost invariant = { λ r. IsLog r.first r.durable r.end (R.seen r.disk).opened (R.seen r.disk).reach
-        (R.seen r.opening.value).told (R.seen r.disk).told r.pending };
-}
-
-/// How many bytes the record in the node has but for its end LSN.
-fn draft_len(node: &LinkedList<Vec<u8>>) -> u64
-    requires { IsDraft node.now }
-    ensures { result ≡ length (joined node.now) }
-{
-    match node.front() {
-        Some(bytes) => bytes.len() as u64,
-        None => unreachable!(),
-    }
-}
-
-/// Puts the end LSN behind the record; there is room for it.
-fn seal(bytes: &mut Vec<u8>, end: u64)
-    requires { vec_len bytes.old + 8 ≤ vec_capacity bytes.old }
-    ensures { bytes.new.items ≡ bytes.old.items ++ to_be_bytes w64 end }
-{
-    match bytes.extend_from_slice(&end.to_be_bytes()) {
-        Ok(()) => (),
-        Err(_) => unreachable!(),
-    }
-}
-
-/// Puts the end LSN behind the record in the node.
-fn seal_node(node: &mut LinkedList<Vec<u8>>, end: u64)
-    requires { IsDraft node.old }
-    ensures bytes { joined node.new ≡ joined node.old ++ to_be_bytes w64 end }
-    ensures len { length node.new ≡ 1 }
-{
-    match node.front_mut() {
-        Some(bytes) => seal(bytes, end),
-        None => unreachable!(),
-    }
-}
-
-/// Syncs the device.
-fn sync<R: RedoDisk>(disk: &mut R) -> Result<(), Fault>
-    ensures ok { OnOk result (Tells (R.seen disk.old).told (R.seen disk.new).told IsSynced) }
-    ensures err { OnErr result (Tells (R.seen disk.old).told (R.seen disk.new).told IsSame) }
-    ensures reach { (R.seen disk.old).reach ≤ (R.seen disk.new).reach }
-    ensures opened { (R.seen disk.new).opened ≡ (R.seen disk.old).opened }
-    ensures later { (R.seen disk.old).faults ≤ (R.seen disk.new).faults }
-    ensures fault { IfErr result (λ f. IsFault (R.seen disk.old).faults (R.seen disk.new).faults f.before f.after
-        × (f.after ≡ (R.seen disk.new).faults)) }
-{
-    let before = disk.faults();
-    if disk.sync().is_err() {
-        let after = disk.faults();
-        return Err(Fault { before, after });
-    }
-    Ok(())
-}
-
-/// Writes the records one behind the other, from this offset on, and syncs.
-fn write_through<R: RedoDisk>(
-    disk: &mut R,
-    from: u64,
-    pending: &LinkedList<Vec<u8>>,
-) -> Result<(), Fault>
-    requires within { from ≤ (R.seen disk.old).reach }
-    requires limit { from + length (joined pending.now) ≤ LAST_LSN }
-    ensures ok { OnOk result (Tells (R.seen disk.old).told (R.seen disk.new).told (IsMadeDurable from (joined pending.now))) }
-    ensures err { OnErr result (Tells (R.seen disk.old).told (R.seen disk.new).told
-        (IsUncovered from (from + length (joined pending.now)))) }
-    ensures reach { (R.seen disk.old).reach ≤ (R.seen disk.new).reach }
-    ensures reached { OnOk result (from + length (joined pending.now) ≤ (R.seen disk.new).reach) }
-    ensures opened { (R.seen disk.new).opened ≡ (R.seen disk.old).opened }
-    ensures later { (R.seen disk.old).faults ≤ (R.seen disk.new).faults }
-    ensures fault { IfErr result (λ f. IsFault (R.seen disk.old).faults (R.seen disk.new).faults f.before f.after
-        × (f.after ≡ (R.seen disk.new).faults)) }
-{
-    let mut at = from;
-    for bytes in pending.iter() {
-        let before = disk.faults();
-        if disk.write_at(at, bytes.as_slice()).is_err() {
-            let after = disk.faults();
-            return Err(Fault { before, after });
-        }
-        at += bytes.len() as u64;
-    }
-    sync(disk)
+    ghost invariant = { λ r. HasGrown r.log.seen (R.seen r.log.disk) (R.seen r.opening.value).told };
 }
 
 impl<R: RedoDisk> Redo<R> {
@@ -198,16 +85,9 @@ impl<R: RedoDisk> Redo<R> {
         ensures disk { IfOk result (λ r. (r.disk ≡ disk) × (r.opening ≡ (R.seen disk).told)) }
         ensures err { IfErr result (λ e. e.1 ≡ disk) }
     {
-        let end = first + disk.end();
         let opening = Snapshot::of(&disk);
-        Ok(Redo {
-            disk,
-            opening,
-            first,
-            durable: end,
-            end,
-            pending: LinkedList::new(alloc),
-        })
+        let log = Log::start(alloc, disk, first);
+        Ok(Redo { log, opening })
     }
 
     /// Appends the record of a draft at the log's end, in memory: no device is used, and no memory is taken.
@@ -227,20 +107,7 @@ impl<R: RedoDisk> Redo<R> {
         ensures full { LAST_LSN < self.old.seen.end + length draft + 8 → IsErr result }
         ensures err { OnErr result (self.new ≡ self.old) }
     {
-        let mut node = draft.into_node();
-        let start = self.end;
-        let len = draft_len(&node) + 8;
-        if LAST_LSN - start < len {
-            return Err(LogSpent { end: start });
-        }
-        let end = start + len;
-        seal_node(&mut node, end);
-        match self.pending.append(&mut node) {
-            Ok(()) => (),
-            Err(_) => unreachable!(),
-        }
-        self.end = end;
-        Ok(Span { start, end })
+        self.log.append(draft)
     }
 
     /// Makes the log durable up to an LSN at least. It takes no memory.
@@ -265,48 +132,35 @@ impl<R: RedoDisk> Redo<R> {
             → IsFault self.old.seen.faults self.new.seen.faults before after
             × (after ≡ self.new.seen.faults) × (lsn ≤ self.new.seen.end) }
     {
-        if lsn > self.end {
-            return Err(CoverErr::BeyondEnd { lsn, end: self.end });
-        }
-        if lsn <= self.durable {
-            return Ok(Covered { upto: self.durable });
-        }
-        let from = self.durable - self.first;
-        match write_through(&mut self.disk, from, &self.pending) {
-            Ok(()) => (),
-            Err(Fault { before, after }) => return Err(CoverErr::Fault { before, after }),
-        }
-        self.pending.clear();
-        self.durable = self.end;
-        Ok(Covered { upto: self.durable })
+        self.log.cover(lsn)
     }
 
     /// The LSN up to which the log is durable.
     pub fn durable(&self) -> u64
         ensures { result ≡ self.now.seen.durable }
     {
-        self.durable
+        self.log.durable()
     }
 
     /// The LSN behind the last record.
     pub fn end(&self) -> u64
         ensures { result ≡ self.now.seen.end }
     {
-        self.end
+        self.log.end()
     }
 
     /// The marks measure the log. It does nothing.
     pub fn is_measured(&self)
         ensures { IsMeasured self.now.seen }
     {
-        let _ = &self.end;
+        self.log.is_measured();
     }
 
     /// The device's count of faults.
     pub fn faults(&self) -> u64
         ensures { result ≡ self.now.seen.faults }
     {
-        self.disk.faults()
+        self.log.faults()
     }
 
     /// Ends the log and hands its device back. Records that are not durable are dropped.
@@ -322,14 +176,7 @@ impl<R: RedoDisk> Redo<R> {
         ensures records { (piece : List ℕ) (start : ℕ) → Holds self.seen piece start → start + length piece ≤ result.durable
             → IsKeptAt self.seen.first piece start (R.seen result.disk).told }
     {
-        let Redo {
-            disk,
-            durable,
-            end,
-            pending,
-            ..
-        } = self;
-        drop(pending);
-        RedoEnd { disk, end, durable }
+        let Redo { log, .. } = self;
+        log.close()
     }
 }

@@ -34,7 +34,7 @@ use Rattle.desk.specs.Tied.{AreTied}
 use Rattle.desk.specs.Victims.{IsHad}
 use Rattle.desk.specs.Fixing.{IsMiss}
 use Rattle.desk.specs.declared.calls.Caller.{Caller}
-use Rattle.script_run.specs.Work.{Working, AreHoused, AreHeld, IsReady, IsAtRest, IsBehindIt, Along, with_answer, with_note, given_at}
+use Rattle.script_run.specs.Work.{Working, AreHoused, AreHeld, IsWorkerReady, IsUndisturbed, IsBehindIt, Along, with_answer, with_note, given_at}
 use Rattle.script_run.proofs.Fixes.{one_page, split_at, reverse_around}
 use Rattle.script_run.proofs.Values.{Leaves, fix_leaves, put_leaves, write_leaves, check_leaves, refused_leaves}
 use Rattle.script_run.proofs.Growing.{me, Left, left_same, left_more}
@@ -79,7 +79,7 @@ Ties seen desk frames = AreTied seen (seen_of frames) desk × IsEmptyHanded desk
 
 -- a call's entries came, and its answer
 along_by : {D : Type 0} (seen : D → DiskSeen) (old new : State D) (before after : Plain) (was is : Seen) (w : Working) (k : Kind) → Left seen old new → length new.history ≤ length old.history + 16385
-    → (IsReady seen old before w.fixed → Stays new.config new.history after.rows (with_answer w k).fixed × (length (with_answer w k).fixed ≤ 64))
+    → (IsWorkerReady seen old before w.fixed → Stays new.config new.history after.rows (with_answer w k).fixed × (length (with_answer w k).fixed ≤ 64))
     → Keeps seen old new before after → Ties seen new after → IsLater was is → log_end new.history ≤ is.end
     → Along seen 1 old new before after was is w (with_answer w k)
 along_by seen old new before after was is w k left grown stays behind tied later known = record {
@@ -95,7 +95,7 @@ along_by seen old new before after was is w k left grown stays behind tied later
 
 -- at most four came
 pub along_of : {D : Type 0} (seen : D → DiskSeen) (old new : State D) (before after : Plain) (was is : Seen) (w : Working) (k : Kind) → Left seen old new → length new.history ≤ length old.history + 4
-    → (IsReady seen old before w.fixed → Stays new.config new.history after.rows (with_answer w k).fixed × (length (with_answer w k).fixed ≤ 64))
+    → (IsWorkerReady seen old before w.fixed → Stays new.config new.history after.rows (with_answer w k).fixed × (length (with_answer w k).fixed ≤ 64))
     → Keeps seen old new before after → Ties seen new after → IsLater was is → log_end new.history ≤ is.end
     → Along seen 1 old new before after was is w (with_answer w k)
 along_of seen old new before after was is w k left grown stays behind tied later known = along_by seen old new before after was is w k left (omega (arith, grown)) stays behind tied later known
@@ -149,7 +149,7 @@ stays_entry had new rows w k entry leaves kept few was =
       omega (arith, few, ap (length {A = Held}) kept),
     )
 
-stays_moved : {D : Type 0} (seen : D → DiskSeen) (desk : State D) (before after : Plain) (fixed : List Held) → (AreHeld before.rows fixed → AreHeld after.rows fixed) → IsReady seen desk before fixed
+stays_moved : {D : Type 0} (seen : D → DiskSeen) (desk : State D) (before after : Plain) (fixed : List Held) → (AreHeld before.rows fixed → AreHeld after.rows fixed) → IsWorkerReady seen desk before fixed
     → Stays desk.config desk.history after.rows fixed
 stays_moved seen desk before after fixed rows ready = stays_rows desk.config desk.history before.rows after.rows fixed (rows ready.held) (stays_ready seen desk before fixed ready)
 
@@ -253,7 +253,7 @@ along_checked seen old new frames log w lsn checked behind tied known =
 -- a receipt that gives no fix back, or the fix that its call got
 pub along_kept : {D : Type 0} (seen : D → DiskSeen) (desk : State D) (frames : Plain) (log : Seen) (w : Working) (n : Note) → held_after_note w.next n w.fixed ≡ w.fixed → Along seen 1 desk desk frames frames log log w (with_note desk w n)
 along_kept seen desk frames log w n kept =
-    let H : List Held → Type 0 = λ held. IsReady seen desk frames held in
+    let H : List Held → Type 0 = λ held. IsWorkerReady seen desk frames held in
     record {
       left = left_same seen desk desk refl refl refl;
       grown = omega arith;
@@ -300,14 +300,14 @@ around_fix : (items : List Held) (i : ℕ) (h : Held) → slice_get items i ≡ 
 around_fix items i h here = ap reverse (split_at items i h here) ∙ reverse_around (take i items) h (drop (suc i) items)
 
 -- its frame is at rest, and has a fix
-pub rest_at : {D : Type 0} (seen : D → DiskSeen) (desk : State D) (frames : Plain) (items : List Held) (i : ℕ) (h : Held) → slice_get items i ≡ Some h → IsReady seen desk frames (reverse items) → IsAtRest frames h.frame
+pub rest_at : {D : Type 0} (seen : D → DiskSeen) (desk : State D) (frames : Plain) (items : List Held) (i : ℕ) (h : Held) → slice_get items i ≡ Some h → IsWorkerReady seen desk frames (reverse items) → IsUndisturbed frames h.frame
 rest_at seen desk frames items i h here ready =
-    let B : List Held → Type 0 = λ held. IsReady seen desk frames held in
+    let B : List Held → Type 0 = λ held. IsWorkerReady seen desk frames held in
     rest_mid seen desk frames (reverse (drop (suc i) items)) h (reverse (take i items)) (subst B (around_fix items i h here) ready)
 
-pub held_at : {D : Type 0} (seen : D → DiskSeen) (desk : State D) (frames : Plain) (items : List Held) (i : ℕ) (h : Held) → slice_get items i ≡ Some h → IsReady seen desk frames (reverse items) → 0 < held_of (row_in frames.rows h.frame)
+pub held_at : {D : Type 0} (seen : D → DiskSeen) (desk : State D) (frames : Plain) (items : List Held) (i : ℕ) (h : Held) → slice_get items i ≡ Some h → IsWorkerReady seen desk frames (reverse items) → 0 < held_of (row_in frames.rows h.frame)
 held_at seen desk frames items i h here ready =
-    let B : List Held → Type 0 = λ held. IsReady seen desk frames held in
+    let B : List Held → Type 0 = λ held. IsWorkerReady seen desk frames held in
     some_held seen desk frames (reverse (drop (suc i) items)) h (reverse (take i items)) (subst B (around_fix items i h here) ready)
 
 -- one fix less
@@ -317,8 +317,8 @@ pub along_removed : {D : Type 0} (seen : D → DiskSeen) (desk : State D) (frame
 along_removed seen desk frames log w v items left i h old new is here pass next =
     let parts : w.fixed ≡ reverse (drop (suc i) items) ++ h ∷ reverse (take i items) = old ∙ around_fix items i h here in
     let now : v.fixed ≡ reverse (drop (suc i) items) ++ reverse (take i items) = new ∙ ap reverse is ∙ reverse-append (take i items) (drop (suc i) items) in
-    let B : List Held → Type 0 = λ held. IsReady seen desk frames held in
-    let A : List Held → Type 0 = λ held. IsReady seen desk (given_at frames h.frame) held in
+    let B : List Held → Type 0 = λ held. IsWorkerReady seen desk frames held in
+    let A : List Held → Type 0 = λ held. IsWorkerReady seen desk (given_at frames h.frame) held in
     record {
       left = left_same seen desk desk refl refl refl;
       grown = omega arith;

@@ -16,7 +16,7 @@ use Rattle.trail.specs.History.{value}
 use Rattle.trail.specs.Saved.{is_written, saved}
 use Rattle.desk.specs.Base.{IsBase}
 use Rattle.script_text.specs.Plan.{Plan}
-use Rattle.script_text.specs.Verdict.{IsScript, IsBad}
+use Rattle.script_text.specs.Verdict.{IsScript, IsBadScript}
 use Rattle.script_run.specs.Runs.{disk_as, log_as, start_of, IsEndedRun, IsLogOf, IsLogAsOpened, IsLongLog, IsSavedPage, IsValuedPage}
 use Rattle.script_run.proofs.Growing.{on_some}
 use Rattle.script_run.proofs.Progress.{append_nil}
@@ -91,14 +91,14 @@ all_ends bytes all rest plan whole (inr long) is = absurd (omega (arith, long, i
 too_long : (bytes all rest : List ℕ) → bytes ≡ all ++ rest → 1048576 < length all → 1048576 < length bytes
 too_long bytes all rest whole long = let n = ap (length {A = ℕ}) whole in let m = length-append all rest in omega (arith, n, m, long)
 
-pub all_bad : (bytes all rest : List ℕ) (n : ℕ) → bytes ≡ all ++ rest → (rest ≡ []) ⊎ (length all ≡ 1048577) → IsBad all n → IsBad bytes n
-all_bad bytes all rest n whole (inl none) bad = let B : List ℕ → Type 0 = λ b. IsBad b n in subst B (sym (whole ∙ ap (λ r. all ++ r) none ∙ append_nil all)) bad
+pub all_bad : (bytes all rest : List ℕ) (n : ℕ) → bytes ≡ all ++ rest → (rest ≡ []) ⊎ (length all ≡ 1048577) → IsBadScript all n → IsBadScript bytes n
+all_bad bytes all rest n whole (inl none) bad = let B : List ℕ → Type 0 = λ b. IsBadScript b n in subst B (sym (whole ∙ ap (λ r. all ++ r) none ∙ append_nil all)) bad
 all_bad bytes all rest n whole (inr long) (inl (zero_is, inl too)) = inl (zero_is, inl (too_long bytes all rest whole too))
 all_bad bytes all rest n whole (inr long) (inl (zero_is, inr faulty)) = absurd (omega (arith, long, faulty.short))
 all_bad bytes all rest n whole (inr long) (inr (short, line)) = absurd (omega (arith, long, short))
 
-pub bad_all : (bytes all rest : List ℕ) (n : ℕ) → bytes ≡ all ++ rest → (rest ≡ []) ⊎ (length all ≡ 1048577) → IsBad bytes n → IsBad all n
-bad_all bytes all rest n whole (inl none) bad = let B : List ℕ → Type 0 = λ b. IsBad b n in subst B (whole ∙ ap (λ r. all ++ r) none ∙ append_nil all) bad
+pub bad_all : (bytes all rest : List ℕ) (n : ℕ) → bytes ≡ all ++ rest → (rest ≡ []) ⊎ (length all ≡ 1048577) → IsBadScript bytes n → IsBadScript all n
+bad_all bytes all rest n whole (inl none) bad = let B : List ℕ → Type 0 = λ b. IsBadScript b n in subst B (whole ∙ ap (λ r. all ++ r) none ∙ append_nil all) bad
 bad_all bytes all rest n whole (inr long) (inl (zero_is, why)) = inl (zero_is, inl (omega (arith, long)))
 bad_all bytes all rest n whole (inr long) (inr (short, line)) = let m = ap (length {A = ℕ}) whole in let k = length-append all rest in absurd (omega (arith, long, short, m, k))
 

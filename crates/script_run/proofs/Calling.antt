@@ -16,7 +16,7 @@ use Rattle.trail.specs.Legal.{IsNumbered, IsTogether}
 use Rattle.trail.specs.Laws.{AreLawful}
 use Rattle.trail.specs.Needs.{HasPlaces, limit_of, need_of}
 use Rattle.trail.proofs.LookUps.{before_made}
-use Rattle.script_run.specs.Work.{AreOf, IsCalling}
+use Rattle.script_run.specs.Work.{AreOf, IsWorkersCall}
 
 pub own_more : (c : ℕ) (e : Event) (past : List Event) → caller_of e ≡ c → own c (e ∷ past) ≡ e ∷ own c past
 own_more c e past is = ap (λ (b : Bool). cond b (e ∷ own c past) (own c past)) (eq-eqb (caller_of e) c is)
@@ -66,15 +66,15 @@ answered_none n (e ∷ mine) less =
     ap (λ (b : Bool). (b && is_answer e) || is_answered n mine) (other_number (number_of e) n parts.0) ∙ answered_none n mine parts.1
 
 -- the next call
-pub calling_at_start : IsCalling [] 1 []
+pub calling_at_start : IsWorkersCall [] 1 []
 calling_at_start = record { first = omega arith; made_are = refl; count = refl; unanswered = refl; settled = λ k least less. absurd (omega (arith, least, less)) }
 
-calls_below : (mine : List Event) (n : ℕ) (pending : List Entry) → IsCalling mine n pending → calls_of mine ≤ n
+calls_below : (mine : List Event) (n : ℕ) (pending : List Entry) → IsWorkersCall mine n pending → calls_of mine ≤ n
 calls_below mine n [] c = omega (arith, c.count)
 calls_below mine n (e ∷ pending) c = omega (arith, c.count)
 
 -- an event that answers the call
-calling_next : (e : Event) (mine : List Event) (n : ℕ) (pending : List Entry) → IsCalling mine n pending → number_of e ≡ n → is_answer e ≡ true → IsCalling (e ∷ mine) (n + 1) []
+calling_next : (e : Event) (mine : List Event) (n : ℕ) (pending : List Entry) → IsWorkersCall mine n pending → number_of e ≡ n → is_answer e ≡ true → IsWorkersCall (e ∷ mine) (n + 1) []
 calling_next e mine n pending c is answers =
     let below = calls_below mine n pending c in
     let calls : calls_of (e ∷ mine) ≡ n = ap (λ m. most m (calls_of mine)) is ∙ most_left n (calls_of mine) below in
@@ -102,14 +102,14 @@ calling_next e mine n pending c is answers =
     go k least less here true t = ap (λ j. is_answered j (e ∷ mine)) (same k t) ∙ here
     go k least less here false t = or_right ((nat_eq (number_of e) k) && is_answer e) (is_answered k mine) (c.settled k least (below_it k t less))
 
-pub calling_answer : (e : Entry) (mine : List Event) (n : ℕ) (pending : List Entry) → IsCalling mine n pending → e.number ≡ n → kind_answers e.kind ≡ true → IsCalling (event.Entry e ∷ mine) (n + 1) []
+pub calling_answer : (e : Entry) (mine : List Event) (n : ℕ) (pending : List Entry) → IsWorkersCall mine n pending → e.number ≡ n → kind_answers e.kind ≡ true → IsWorkersCall (event.Entry e ∷ mine) (n + 1) []
 calling_answer e mine n pending c is answers = calling_next (event.Entry e) mine n pending c is answers
 
-pub calling_receipt : (r : Receipt) (mine : List Event) (n : ℕ) (pending : List Entry) → IsCalling mine n pending → r.number ≡ n → IsCalling (event.Receipt r ∷ mine) (n + 1) []
+pub calling_receipt : (r : Receipt) (mine : List Event) (n : ℕ) (pending : List Entry) → IsWorkersCall mine n pending → r.number ≡ n → IsWorkersCall (event.Receipt r ∷ mine) (n + 1) []
 calling_receipt r mine n pending c is = calling_next (event.Receipt r) mine n pending c is refl
 
 -- an entry before the answer
-pub calling_under : (e : Entry) (mine : List Event) (n : ℕ) (pending : List Entry) → IsCalling mine n pending → e.number ≡ n → kind_answers e.kind ≡ false → IsCalling (event.Entry e ∷ mine) n (e ∷ pending)
+pub calling_under : (e : Entry) (mine : List Event) (n : ℕ) (pending : List Entry) → IsWorkersCall mine n pending → e.number ≡ n → kind_answers e.kind ≡ false → IsWorkersCall (event.Entry e ∷ mine) n (e ∷ pending)
 calling_under e mine n pending c is silent =
     let below = calls_below mine n pending c in
     record {
@@ -129,11 +129,11 @@ calling_under e mine n pending c is silent =
     later false b t = t
 
 -- the law on numbers
-pub numbered_by : (mine : List Event) (n : ℕ) (pending : List Entry) → IsCalling mine n pending → IsNumbered mine n
+pub numbered_by : (mine : List Event) (n : ℕ) (pending : List Entry) → IsWorkersCall mine n pending → IsNumbered mine n
 numbered_by mine n [] c = inl (sym c.count)
 numbered_by mine n (e ∷ pending) c = inr (record { first = c.first; begun = omega (arith, c.count); unanswered = c.unanswered })
 
-pub next_by : (mine : List Event) (n : ℕ) → IsCalling mine n [] → n ≡ calls_of mine + 1
+pub next_by : (mine : List Event) (n : ℕ) → IsWorkersCall mine n [] → n ≡ calls_of mine + 1
 next_by mine n c = sym c.count
 
 -- the entries of a lawful trail are numbered by their places

@@ -30,8 +30,8 @@ use Rattle.desk.specs.Changes.{WritesBack, IsCleanedBy, IsCleaned}
 use Rattle.desk.specs.Checks.{IsChecked, redo_start}
 use Rattle.script_text.specs.declared.script.Command.TheVariants as command
 use Rattle.script_run.specs.Openings.{Start, AreFaultsWithin}
-use Rattle.script_run.specs.Todo.{Answers, GoesOn, WritesAll}
-use Rattle.script_run.specs.Work.{Working, AreSteady, SoFar, Does, AreFalling, with_answer}
+use Rattle.script_run.specs.Todo.{Answers, HistoryGoesOn, WritesAll}
+use Rattle.script_run.specs.Work.{Working, AreSteady, HasPlayed, Does, FixesFall, with_answer}
 use Rattle.script_run.proofs.Fixes.{falling_up}
 use Rattle.script_run.proofs.Flushing.{FrontLeaves, Flushed, flushed}
 use Rattle.script_run.proofs.Closing.{Closes, clean_closes, fault_closes}
@@ -40,7 +40,7 @@ use Rattle.script_run.proofs.Doing.{reached}
 use Rattle.script_run.proofs.Progress.{append_nil}
 use Rattle.script_run.proofs.Values.{faults_up}
 
-module _ {D : Type 0} (seen : D → DiskSeen) (o : Opening) (start : Start) (old new : State D) (was is : Seen) (w : Working) (past : List Event) (so : SoFar seen o start old was w past []) (moves : Moves seen old new was is) where
+module _ {D : Type 0} (seen : D → DiskSeen) (o : Opening) (start : Start) (old new : State D) (was is : Seen) (w : Working) (past : List Event) (so : HasPlayed seen o start old was w past []) (moves : Moves seen old new was is) where
   -- the call's writes stand behind the trail so far
   abbrev Wrote : ℕ → List Entry → Type 0
   Wrote n mid = Flushed (me w) o start (seen new.disk).faults is.faults past n mid
@@ -61,7 +61,7 @@ module _ {D : Type 0} (seen : D → DiskSeen) (o : Opening) (start : Start) (old
       subst (λ c. H c mid) (sym so.config_is) (ap (λ (b : Book). b.hands) f.book_is ∙ subst (λ h. H o.config h) (sym so.entries_are) (subst (λ c. H c old.history) so.config_is (so.empty_handed refl)))
 
   -- what is so between the last of them and the answer
-  so_far_writes : (n : ℕ) (mid : List Entry) (f : Wrote n mid) → IsLogged is mid → SoFar seen o start (placed old new mid) is w (f.writes ++ past) f.made
+  so_far_writes : (n : ℕ) (mid : List Entry) (f : Wrote n mid) → IsLogged is mid → HasPlayed seen o start (placed old new mid) is w (f.writes ++ past) f.made
   so_far_writes n mid f logged = record {
     good = with_words o None (Some w.pass) (f.writes ++ past) f.good (f.exact (Some w.pass) (words_of o (Some w.pass) past so.good));
     promised = f.promised;
@@ -93,13 +93,13 @@ module _ {D : Type 0} (seen : D → DiskSeen) (o : Opening) (start : Start) (old
   does_answer : (bound n : ℕ) (k : Kind) (cleaned : IsCleanedBy old new (me w) n k) (f : Wrote n cleaned.mid) → Closes (me w) start (seen new.disk).faults is.faults o (f.writes ++ past) k
       → disk_faults_after k (disk_faults cleaned.mid) ≤ (seen new.disk).faults → log_faults_after k (log_faults cleaned.mid) ≤ is.faults
       → held_after_kind w.next k w.fixed ≡ w.fixed
-      → ((h : List Entry) → GoesOn (event.Entry (entry_behind old.config.first cleaned.mid (me w) k) ∷ f.writes ++ past) h
+      → ((h : List Entry) → HistoryGoesOn (event.Entry (entry_behind old.config.first cleaned.mid (me w) k) ∷ f.writes ++ past) h
       → Answers h w.pass (command.Clean bound) past (event.Entry (entry_behind old.config.first cleaned.mid (me w) k)))
       → Does seen o start new is (with_answer w k) past (command.Clean bound)
   does_answer bound n k cleaned f c last last_log kept answers =
       let e : Entry = entry_behind old.config.first cleaned.mid (me w) k in
       let I : List Entry → Type 0 = λ h. IsLogged is h in
-      let F : List Held → Type 0 = λ fixes. AreFalling (w.next + 1) fixes in
+      let F : List Held → Type 0 = λ fixes. FixesFall (w.next + 1) fixes in
       let all : IsLogged is (e ∷ cleaned.mid) = subst I cleaned.history moves.logged in
       let there = so_far_writes n cleaned.mid f all.1 in
       let at = placed old new cleaned.mid in
@@ -128,7 +128,7 @@ module _ {D : Type 0} (seen : D → DiskSeen) (o : Opening) (start : Start) (old
   )
 
   -- where nothing is left dirty, the pages that were written are all that were
-  all_written : (h : List Entry) (n : ℕ) (mid : List Entry) (f : Wrote n mid) (e : Entry) → dirty mid ≡ [] → GoesOn (event.Entry e ∷ f.writes ++ past) h → WritesAll h n (event.Entry e)
+  all_written : (h : List Entry) (n : ℕ) (mid : List Entry) (f : Wrote n mid) (e : Entry) → dirty mid ≡ [] → HistoryGoesOn (event.Entry e ∷ f.writes ++ past) h → WritesAll h n (event.Entry e)
   all_written h n mid f e none goes =
       record {
         later = goes.0;
@@ -140,7 +140,7 @@ module _ {D : Type 0} (seen : D → DiskSeen) (o : Opening) (start : Start) (old
 
   -- fewer than the bound
   fewer : (h : List Entry) (bound n : ℕ) (cleaned : IsCleanedBy old new (me w) n (kind.Clean n [])) (f : Wrote n cleaned.mid) → (n ≡ bound) ⊎ (dirty new.history ≡ []) → n < bound
-      → GoesOn (event.Entry (entry_behind old.config.first cleaned.mid (me w) (kind.Clean n [])) ∷ f.writes ++ past) h
+      → HistoryGoesOn (event.Entry (entry_behind old.config.first cleaned.mid (me w) (kind.Clean n [])) ∷ f.writes ++ past) h
       → WritesAll h n (event.Entry (entry_behind old.config.first cleaned.mid (me w) (kind.Clean n [])))
   fewer h bound n cleaned f (inl full) less goes = absurd (omega (arith, full, less))
   fewer h bound n cleaned f (inr none) less goes =
@@ -185,7 +185,7 @@ checkpoint_legal (d ∷ ds) end last lsn same behind = same
 
 -- a checkpoint comes alone
 pub does_check : {D : Type 0} (seen : D → DiskSeen) (o : Opening) (start : Start) (old new : State D) (log : Seen) (w : Working) (past : List Event) (lsn : ℕ)
-    → SoFar seen o start old log w past [] → IsChecked old new (me w) log.end lsn → log_end old.history ≤ log.end → (IsLogged log old.history → IsLogged log new.history)
+    → HasPlayed seen o start old log w past [] → IsChecked old new (me w) log.end lsn → log_end old.history ≤ log.end → (IsLogged log old.history → IsLogged log new.history)
     → mark old.config.first old.history + ANSWER_NEED ≤ LIMIT → Does seen o start new log (with_answer w (kind.Check lsn)) past command.Checkpoint
 does_check seen o start old new log w past lsn so checked known logged room =
     let k = kind.Check lsn in

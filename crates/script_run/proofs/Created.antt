@@ -29,7 +29,7 @@ use Rattle.desk.specs.declared.calls.CreateErr.{CreateErr}
 use Rattle.desk.specs.declared.calls.CreateErr.TheVariants as refusal
 use Rattle.script_text.specs.declared.script.Command.TheVariants as command
 use Rattle.script_run.specs.Openings.{Start}
-use Rattle.script_run.specs.Work.{Working, SoFar, Does, Along, AreHeld, AreHoused, RefusesCreate, with_answer}
+use Rattle.script_run.specs.Work.{Working, HasPlayed, Does, Along, AreHeld, AreHoused, RefusesCreate, with_answer}
 use Rattle.script_run.proofs.Fixing.{Fixes, moves_of, refused, fewer}
 use Rattle.script_run.proofs.Fixes.{same_self}
 use Rattle.script_run.proofs.Framing.{held_with}
@@ -99,7 +99,7 @@ unmade_along seen old new before after was is w p now held (Err (refusal.LogSpen
 
 -- the laws of the command, over any trail so far
 abbrev pub Made : {D : Type 0} → (D → DiskSeen) → State D → State D → Seen → Seen → Working → Working → PageId → ℕ → Type 0
-Made seen old new was is w v p now = (o : Opening) (start : Start) (past : List Event) → SoFar seen o start old was w past [] → Does seen o start new is v past (command.Create p now)
+Made seen old new was is w v p now = (o : Opening) (start : Start) (past : List Event) → HasPlayed seen o start old was w past [] → Does seen o start new is v past (command.Create p now)
 
 pub made_does : {D : Type 0} (seen : D → DiskSeen) (old new : State D) (before after : Plain) (was is : Seen) (w : Working) (p : PageId) (now : ℕ) (g : Granted)
     → Fixes seen old new before after was is w → length w.fixed < 64 → p.page < pages_in (seen old.disk).spaces p.space → log_end old.history ≤ was.end

@@ -4,7 +4,7 @@ use Rattle.std.specs.Prelude.{Contains, slice_range, is_none, unwrap_or}
 use Rattle.std.proofs.lemmas.Bool.Decides.{nat_tests}
 use Rattle.page_ids.specs.Size.{page_bytes}
 use Rattle.page_ids.specs.Content.{Content, IsRange}
-use Rattle.page_ids.specs.Refusal.{IsBad}
+use Rattle.page_ids.specs.Refusal.{IsBadPage}
 use Rattle.page_ids.specs.declared.frame_word.Word.{Word}
 use Rattle.page_ids.specs.declared.ids.PageId.{PageId}
 use Rattle.page_ids.specs.declared.config.Config.{Config}
@@ -53,7 +53,7 @@ use Rattle.frame_words.specs.Seen.{FramesSeen}
 use Rattle.desk.specs.Base.{Opened}
 use Rattle.desk.specs.Behind.{IsValueIn}
 use Rattle.desk.specs.State.{State}
-use Rattle.desk.specs.Steps.{IsAppended, IsHit, IsOutside, IsFaulted, IsUnsound, next_entry, row_in}
+use Rattle.desk.specs.Steps.{IsAppended, IsHit, IsPastEnd, IsFaulted, IsUnsound, next_entry, row_in}
 use Rattle.desk.specs.Ledger.{entry_behind}
 use Rattle.desk.specs.Victims.{IsHad}
 use Rattle.desk.specs.Fixing.{IsMiss, IsHeldFull, IsUnseated, IsUnwritten}
@@ -63,7 +63,7 @@ use Rattle.script_text.specs.declared.script.Command.{Command}
 use Rattle.script_text.specs.declared.script.Command.TheVariants as command
 use Rattle.script_run.specs.Openings.{Start, IsCauseWithin, IsKindWithin, opened_of}
 use Rattle.script_run.specs.Todo.{Answers, IsReceiptOf, IsEntryOf, IsRefusal}
-use Rattle.script_run.specs.Work.{Working, leaves_chunks, SoFar, StandsBehind, IsReady, IsRangeOf, Does, AreFalling, with_answer, with_note, next_receipt}
+use Rattle.script_run.specs.Work.{Working, leaves_chunks, HasPlayed, StandsBehind, IsWorkerReady, IsRangeOf, Does, FixesFall, with_answer, with_note, next_receipt}
 use Rattle.script_run.proofs.Fixes.{falling_up, newest_held}
 use Rattle.script_run.proofs.Growing.{me, Left, left_same, on_some, Moves, placed, grown, logged_rest, so_far_placed, so_far_after, so_far_answer, so_far_under, so_far_receipt, lawful_entry, lawful_receipt}
 use Rattle.script_run.proofs.Exact.{exact_words}
@@ -73,7 +73,7 @@ use Rattle.script_run.proofs.Telling.{told_below}
 use Rattle.script_run.proofs.Having.{Readied, readied_none, readied, logged_before, had_config}
 
 pub in_space : {D : Type 0} (seen : D → DiskSeen) (o : Opening) (start : Start) (desk : State D) (log : Seen) (w : Working) (past : List Event) (pending : List Entry) (p : PageId)
-    → SoFar seen o start desk log w past pending → p.page < pages_in (seen desk.disk).spaces p.space → p.page < start.pages p.space
+    → HasPlayed seen o start desk log w past pending → p.page < pages_in (seen desk.disk).spaces p.space → p.page < start.pages p.space
 in_space seen o start desk log w past pending p so inside = let P : ℕ → Type 0 = λ n. p.page < n in subst P (sym (so.pages_are p.space)) inside
 
 -- the caller has as many fixes as it may, or fewer
@@ -88,7 +88,7 @@ is_full mine fixed are full = ap (λ (b : Bool). cond b (Some (cause.HoldFull 64
 
 -- the places of the call are left
 pub places : {D : Type 0} (seen : D → DiskSeen) (o : Opening) (start : Start) (desk : State D) (log : Seen) (w : Working) (past : List Event) (pending base : List Entry) (asked : Call) (need : ℕ)
-    → SoFar seen o start desk log w past pending → desk.history ≡ pending ++ base → need_of o.config base w.pass w.next asked ≡ Some need → mark desk.config.first base + need ≤ LIMIT
+    → HasPlayed seen o start desk log w past pending → desk.history ≡ pending ++ base → need_of o.config base w.pass w.next asked ≡ Some need → mark desk.config.first base + need ≤ LIMIT
     → HasPlaces o.first o.config (before_call (made w.next (own w.pass past)) (entries past)) w.pass w.next asked
 places seen o start desk log w past pending base asked need so stands is room =
     let at : before_call (made w.next (own w.pass past)) (entries past) ≡ base =
@@ -99,7 +99,7 @@ places seen o start desk log w past pending base asked need so stands is room =
 
 -- The places of the call are left, behind which the history has room for its entries, and its page is in its space.
 pub reached : {D : Type 0} (seen : D → DiskSeen) (o : Opening) (start : Start) (desk : State D) (log : Seen) (w : Working) (past : List Event) (pending base : List Entry) (asked : Call) (need : ℕ)
-    → SoFar seen o start desk log w past pending → desk.history ≡ pending ++ base → need_of o.config base w.pass w.next asked ≡ Some need → mark desk.config.first base + need ≤ LIMIT
+    → HasPlayed seen o start desk log w past pending → desk.history ≡ pending ++ base → need_of o.config base w.pass w.next asked ≡ Some need → mark desk.config.first base + need ≤ LIMIT
     → IfSome (sought_page asked) (λ p. p.page < start.pages p.space) → IsReached o past (entries past) (made w.next (own w.pass past)) w.pass w.next asked
 reached seen o start desk log w past pending base asked need so stands is room inside =
     record {
@@ -124,9 +124,9 @@ value_at o past h p P are is = on_some o.base _ _ (λ base e at. let V : List En
 
 -- a fix is granted where the page is
 so_far_fix : {D : Type 0} (seen : D → DiskSeen) (o : Opening) (start : Start) (desk : State D) (log : Seen) (w : Working) (past : List Event) (pending base : List Entry) (p : PageId) (now : ℕ) (g : Granted)
-    → SoFar seen o start desk log w past pending → desk.history ≡ pending ++ base → MayPrecede desk.history pending (kind.Fix p g.frame g.clock now) → home desk.history p ≡ Some g.frame → g.clock ≡ change desk.history g.frame
+    → HasPlayed seen o start desk log w past pending → desk.history ≡ pending ++ base → MayPrecede desk.history pending (kind.Fix p g.frame g.clock now) → home desk.history p ≡ Some g.frame → g.clock ≡ change desk.history g.frame
     → p.page < start.pages p.space → length w.fixed < 64 → mark desk.config.first base + FIX_NEED ≤ LIMIT → (book desk.config desk.history).hands ≡ []
-    → SoFar seen o start (grown desk w (kind.Fix p g.frame g.clock now)) log (with_answer w (kind.Fix p g.frame g.clock now)) (event.Entry (next_entry desk (me w) (kind.Fix p g.frame g.clock now)) ∷ past) []
+    → HasPlayed seen o start (grown desk w (kind.Fix p g.frame g.clock now)) log (with_answer w (kind.Fix p g.frame g.clock now)) (event.Entry (next_entry desk (me w) (kind.Fix p g.frame g.clock now)) ∷ past) []
 so_far_fix seen o start desk log w past pending base p now g so stands before resident clock inside few room handless =
     let k = kind.Fix p g.frame g.clock now in
     so_far_answer seen o start desk log w past pending k so (record {
@@ -142,7 +142,7 @@ so_far_fix seen o start desk log w past pending base p now g so stands before re
     }) refl (omega arith, so.falling) refl handless
 
 pub does_hit : {D : Type 0} {rows more : List Row} (seen : D → DiskSeen) (o : Opening) (start : Start) (old new : State D) (was is : Seen) (w : Working) (past : List Event) (p : PageId) (now : ℕ) (g : Granted)
-    → SoFar seen o start old was w past [] → Moves seen old new was is → IsHit old new rows more (me w) p now g → p.page < pages_in (seen old.disk).spaces p.space → length w.fixed < 64
+    → HasPlayed seen o start old was w past [] → Moves seen old new was is → IsHit old new rows more (me w) p now g → p.page < pages_in (seen old.disk).spaces p.space → length w.fixed < 64
     → mark old.config.first old.history + FIX_NEED ≤ LIMIT → Does seen o start new is (with_answer w (kind.Fix p g.frame g.clock now)) past (command.Fix p now)
 does_hit seen o start old new was is w past p now g so moves hit inside few room =
     let k = kind.Fix p g.frame g.clock now in
@@ -164,7 +164,7 @@ same_pool c d h new w k same is = let E : Config → Type 0 = λ config. new ≡
 -- a page with a value was read into the next frame
 so_far_load : {D : Type 0} (seen : D → DiskSeen) (o : Opening) (start : Start) (old new : State D) (log : Seen) (w : Working) (past : List Event) (p : PageId) (f : ℕ) (h : List Entry)
     → (r : Readied seen o start old new log w past p h) → home h p ≡ None → frame_in_turn (book old.config h) ≡ Some f → OnValue o (entries (r.more ++ past)) p (λ v. IsSome v)
-    → SoFar seen o start (placed old new (entry_behind old.config.first h (me w) (kind.Load p f) ∷ h)) log w (event.Entry (entry_behind old.config.first h (me w) (kind.Load p f)) ∷ r.more ++ past) (entry_behind old.config.first h (me w) (kind.Load p f) ∷ r.made)
+    → HasPlayed seen o start (placed old new (entry_behind old.config.first h (me w) (kind.Load p f) ∷ h)) log w (event.Entry (entry_behind old.config.first h (me w) (kind.Load p f)) ∷ r.more ++ past) (entry_behind old.config.first h (me w) (kind.Load p f) ∷ r.made)
 so_far_load seen o start old new log w past p f h r absent next sound =
     let k = kind.Load p f in
     let now : List Event = r.more ++ past in
@@ -185,7 +185,7 @@ so_far_load seen o start old new log w past p f h r absent next sound =
     }) refl refl refl
 
 pub does_miss : {D : Type 0} {more : List Row} (seen : D → DiskSeen) (o : Opening) (start : Start) (old new : State D) (frames : Plain) (was is : Seen) (w : Working) (past : List Event) (p : PageId) (now : ℕ) (g : Granted)
-    → SoFar seen o start old was w past [] → Moves seen old new was is → IsReady seen old frames w.fixed → (miss : IsMiss seen old new frames.rows more (me w) p now g) → p.page < pages_in (seen old.disk).spaces p.space
+    → HasPlayed seen o start old was w past [] → Moves seen old new was is → IsWorkerReady seen old frames w.fixed → (miss : IsMiss seen old new frames.rows more (me w) p now g) → p.page < pages_in (seen old.disk).spaces p.space
     → length w.fixed < 64 → IfSome o.base (λ base. IsSome (value (page_bytes o.config.page) base old.history p)) → mark old.config.first old.history + FIX_NEED ≤ LIMIT
     → Does seen o start new is (with_answer w (kind.Fix p g.frame g.clock now)) past (command.Fix p now)
 does_miss seen o start old new frames was is w past p now g so moves ready miss inside few sound room =
@@ -205,7 +205,7 @@ does_miss seen o start old new frames was is w past p now g so moves ready miss 
     let B : Config → Type 0 = λ c. frame_in_turn (book c had.history) ≡ Some g.frame in
     let there : OnValue o (entries (r.more ++ past)) p (λ v. IsSome v) = value_at o (r.more ++ past) had.history p (λ v. IsSome v) r.so_far.entries_are
     (on_some o.base _ _ (λ base _ some. let V : Option Content → Type 0 = λ v. IsSome v in subst V (sym (r.values (page_bytes o.config.page) base)) some) sound) in
-    let S : List Entry → Type 0 = λ h. SoFar seen o start (placed old new h) is w (event.Entry x ∷ r.more ++ past) (x ∷ r.made) in
+    let S : List Entry → Type 0 = λ h. HasPlayed seen o start (placed old new h) is w (event.Entry x ∷ r.more ++ past) (x ∷ r.made) in
     let H : List Entry → Type 0 = λ h. (book old.config h).hands ≡ [] in
     let B' : List Entry → Type 0 = λ h. h ≡ (x ∷ r.made) ++ old.history in
     let behind = subst S (sym loaded) (so_far_load seen o start old new is w past p g.frame had.history r miss.loaded.absent (subst B config miss.loaded.frame) there) in
@@ -253,7 +253,7 @@ refused_behind seen o start old new log w past p c asked why h r left came logge
 
 -- a refusal that comes alone
 pub refused_at_once : {D : Type 0} (seen : D → DiskSeen) (o : Opening) (start : Start) (old new : State D) (was is : Seen) (w : Working) (past : List Event) (p : PageId) (c : Call) (asked : Command) (why : Cause)
-    → (so : SoFar seen o start old was w past []) → Moves seen old new was is → IsAppended old new (me w) (kind.Refused c why)
+    → (so : HasPlayed seen o start old was w past []) → Moves seen old new was is → IsAppended old new (me w) (kind.Refused c why)
     → IsLoggedKind is (kind.Refused c why) → IsCauseWithin start (seen new.disk).faults is.faults why
     → unwrap_or (disk_fault why) (disk_faults old.history) ≤ (seen new.disk).faults → unwrap_or (log_fault why) (log_faults old.history) ≤ is.faults
     → MayPrecedeRefusal old.history [] c why → IsRefused o past (entries past) (own w.pass past) w.pass w.next c why → IsTrueRefusal old.history w.fixed c why
@@ -293,7 +293,7 @@ does_refused seen o start old new log w past p now why h r left came logged with
 
 -- and one whose refusal comes alone
 refused_alone : {D : Type 0} (seen : D → DiskSeen) (o : Opening) (start : Start) (old new : State D) (was is : Seen) (w : Working) (past : List Event) (p : PageId) (now : ℕ) (why : Cause)
-    → (so : SoFar seen o start old was w past []) → Moves seen old new was is → IsAppended old new (me w) (kind.Refused (call.Fix p now) why)
+    → (so : HasPlayed seen o start old was w past []) → Moves seen old new was is → IsAppended old new (me w) (kind.Refused (call.Fix p now) why)
     → IsLoggedKind is (kind.Refused (call.Fix p now) why) → IsCauseWithin start (seen new.disk).faults is.faults why
     → unwrap_or (disk_fault why) (disk_faults old.history) ≤ (seen new.disk).faults → unwrap_or (log_fault why) (log_faults old.history) ≤ is.faults
     → MayPrecedeRefusal old.history [] (call.Fix p now) why → IsRefused o past (entries past) (own w.pass past) w.pass w.next (call.Fix p now) why → IsTrueRefusal old.history w.fixed (call.Fix p now) why
@@ -306,12 +306,12 @@ refused_alone seen o start old new was is w past p now why so moves entry logged
 
 -- a fix got as far as its own causes, and none is due
 fix_reached : {D : Type 0} (seen : D → DiskSeen) (o : Opening) (start : Start) (desk : State D) (log : Seen) (w : Working) (past : List Event) (pending base : List Entry) (p : PageId) (now : ℕ)
-    → SoFar seen o start desk log w past pending → desk.history ≡ pending ++ base → mark desk.config.first base + FIX_NEED ≤ LIMIT → p.page < start.pages p.space
+    → HasPlayed seen o start desk log w past pending → desk.history ≡ pending ++ base → mark desk.config.first base + FIX_NEED ≤ LIMIT → p.page < start.pages p.space
     → IsReached o past (entries past) (made w.next (own w.pass past)) w.pass w.next (call.Fix p now)
 fix_reached seen o start desk log w past pending base p now so stands room inside = reached seen o start desk log w past pending base (call.Fix p now) FIX_NEED so stands refl room inside
 
 pub does_outside : {D : Type 0} (seen : D → DiskSeen) (o : Opening) (start : Start) (old new : State D) (was is : Seen) (w : Working) (past : List Event) (p : PageId) (now pages : ℕ)
-    → SoFar seen o start old was w past [] → Moves seen old new was is → IsOutside seen old new (me w) p (call.Fix p now) pages → mark old.config.first old.history + FIX_NEED ≤ LIMIT
+    → HasPlayed seen o start old was w past [] → Moves seen old new was is → IsPastEnd seen old new (me w) p (call.Fix p now) pages → mark old.config.first old.history + FIX_NEED ≤ LIMIT
     → Does seen o start new is (with_answer w (kind.Refused (call.Fix p now) (cause.NoSuchPage pages))) past (command.Fix p now)
 does_outside seen o start old new was is w past p now pages so moves out room =
     let count : pages ≡ start.pages p.space = out.count ∙ sym (so.pages_are p.space) in
@@ -323,7 +323,7 @@ does_outside seen o start old new was is w past p now pages so moves out room =
     ) (wordless old.history w.fixed (call.Fix p now) (cause.NoSuchPage pages) refl refl refl) (record { inside = tt; told = count }) refl refl (λ none. let bad : true ≡ false = none in absurd (cc)) tt
 
 pub does_full : {D : Type 0} (seen : D → DiskSeen) (o : Opening) (start : Start) (old new : State D) (was is : Seen) (w : Working) (past : List Event) (p : PageId) (now held full : ℕ)
-    → SoFar seen o start old was w past [] → Moves seen old new was is → p.page < pages_in (seen old.disk).spaces p.space → held ≡ length w.fixed → length w.fixed ≤ 64 → IsHeldFull old new (me w) (call.Fix p now) held full
+    → HasPlayed seen o start old was w past [] → Moves seen old new was is → p.page < pages_in (seen old.disk).spaces p.space → held ≡ length w.fixed → length w.fixed ≤ 64 → IsHeldFull old new (me w) (call.Fix p now) held full
     → mark old.config.first old.history + FIX_NEED ≤ LIMIT
     → Does seen o start new is (with_answer w (kind.Refused (call.Fix p now) (cause.HoldFull full))) past (command.Fix p now)
 does_full seen o start old new was is w past p now held full so moves inside count few out room =
@@ -350,7 +350,7 @@ excused_here o past h p why at absent excuse = record {
     each (Some base) f = λ some. excuse
 
 pub does_unseated : {D : Type 0} (seen : D → DiskSeen) (o : Opening) (start : Start) (old new : State D) (frames : Plain) (was is : Seen) (w : Working) (past : List Event) (p : PageId) (now : ℕ) (words : List (ℕ × Word))
-    → SoFar seen o start old was w past [] → Moves seen old new was is → IsReady seen old frames w.fixed → p.page < pages_in (seen old.disk).spaces p.space → length w.fixed < 64
+    → HasPlayed seen o start old was w past [] → Moves seen old new was is → IsWorkerReady seen old frames w.fixed → p.page < pages_in (seen old.disk).spaces p.space → length w.fixed < 64
     → IsUnseated old new frames.rows (me w) p (call.Fix p now) words → mark old.config.first old.history + FIX_NEED ≤ LIMIT
     → Does seen o start new is (with_answer w (kind.Refused (call.Fix p now) (cause.AllFixed words))) past (command.Fix p now)
 does_unseated seen o start old new frames was is w past p now words so moves ready inside few out room =
@@ -364,7 +364,7 @@ does_unseated seen o start old new frames was is w past p now words so moves rea
     (λ none. excused_here o past old.history p (cause.AllFixed words) so.entries_are out.absent refl) out.full.rising
 
 pub does_uncovered : {D : Type 0} (seen : D → DiskSeen) (o : Opening) (start : Start) (old new : State D) (was is : Seen) (w : Working) (past : List Event) (p : PageId) (now before after : ℕ)
-    → SoFar seen o start old was w past [] → Moves seen old new was is → p.page < pages_in (seen old.disk).spaces p.space → length w.fixed < 64
+    → HasPlayed seen o start old was w past [] → Moves seen old new was is → p.page < pages_in (seen old.disk).spaces p.space → length w.fixed < 64
     → IsUnwritten old new (me w) p (call.Fix p now) was.faults is.faults before after (cause.RedoFault before after) → mark old.config.first old.history + FIX_NEED ≤ LIMIT
     → Does seen o start new is (with_answer w (kind.Refused (call.Fix p now) (cause.RedoFault before after))) past (command.Fix p now)
 does_uncovered seen o start old new was is w past p now before after so moves inside few out room =
@@ -380,7 +380,7 @@ does_uncovered seen o start old new was is w past p now before after so moves in
     (λ none. excused_here o past old.history p why so.entries_are out.absent refl) tt
 
 pub does_unwritten : {D : Type 0} (seen : D → DiskSeen) (o : Opening) (start : Start) (old new : State D) (was is : Seen) (w : Working) (past : List Event) (p : PageId) (now before after : ℕ)
-    → SoFar seen o start old was w past [] → Moves seen old new was is → p.page < pages_in (seen old.disk).spaces p.space → length w.fixed < 64
+    → HasPlayed seen o start old was w past [] → Moves seen old new was is → p.page < pages_in (seen old.disk).spaces p.space → length w.fixed < 64
     → IsUnwritten old new (me w) p (call.Fix p now) (seen old.disk).faults (seen new.disk).faults before after (cause.DiskFault before after) → mark old.config.first old.history + FIX_NEED ≤ LIMIT
     → Does seen o start new is (with_answer w (kind.Refused (call.Fix p now) (cause.DiskFault before after))) past (command.Fix p now)
 does_unwritten seen o start old new was is w past p now before after so moves inside few out room =
@@ -397,7 +397,7 @@ does_unwritten seen o start old new was is w past p now before after so moves in
 
 -- a frame was had, and its refusal comes behind
 pub does_faulted : {D : Type 0} {cleared : List Row} (seen : D → DiskSeen) (o : Opening) (start : Start) (old had new : State D) (frames : Plain) (was is : Seen) (w : Working) (past : List Event) (p : PageId) (now f before after : ℕ)
-    → SoFar seen o start old was w past [] → Moves seen old new was is → IsReady seen old frames w.fixed → p.page < pages_in (seen old.disk).spaces p.space → length w.fixed < 64
+    → HasPlayed seen o start old was w past [] → Moves seen old new was is → IsWorkerReady seen old frames w.fixed → p.page < pages_in (seen old.disk).spaces p.space → length w.fixed < 64
     → home old.history p ≡ None → IsHad old had frames.rows cleared (me w) f → (seen old.disk).faults ≤ (seen had.disk).faults → IsFaulted seen had new (me w) p now before after
     → mark old.config.first old.history + FIX_NEED ≤ LIMIT
     → Does seen o start new is (with_answer w (kind.Refused (call.Fix p now) (cause.DiskFault before after))) past (command.Fix p now)
@@ -418,13 +418,13 @@ does_faulted seen o start old had new frames was is w past p now f before after 
     ) (wordless had.history w.fixed (call.Fix p now) why refl refl refl) (record { inside = here; told = tt }) refl refl
     (λ none. excused_here o (r.more ++ past) had.history p why r.so_far.entries_are out.absent refl) tt refl
 
-other_number : (p : PageId) (bytes : List ℕ) (found : BadPage) → IsBad p bytes found → IsOther p found
+other_number : (p : PageId) (bytes : List ℕ) (found : BadPage) → IsBadPage p bytes found → IsOther p found
 other_number p bytes (bad.Number n) is = is.2
 other_number p bytes (bad.Space n) is = is.3
 other_number p bytes (bad.Torn head tail) is = is.5
 
 pub does_unsound : {D : Type 0} {cleared : List Row} (seen : D → DiskSeen) (o : Opening) (start : Start) (old had new : State D) (frames : Plain) (was is : Seen) (w : Working) (past : List Event) (p : PageId) (now f : ℕ) (found : BadPage)
-    → SoFar seen o start old was w past [] → Moves seen old new was is → IsReady seen old frames w.fixed → p.page < pages_in (seen old.disk).spaces p.space → length w.fixed < 64
+    → HasPlayed seen o start old was w past [] → Moves seen old new was is → IsWorkerReady seen old frames w.fixed → p.page < pages_in (seen old.disk).spaces p.space → length w.fixed < 64
     → home old.history p ≡ None → IsHad old had frames.rows cleared (me w) f → IsUnsound seen had new (me w) p now found → IfSome o.base (λ base. value (page_bytes o.config.page) base old.history p ≡ None)
     → mark old.config.first old.history + FIX_NEED ≤ LIMIT
     → Does seen o start new is (with_answer w (kind.Refused (call.Fix p now) (cause.BadPage found))) past (command.Fix p now)
@@ -451,7 +451,7 @@ does_unsound seen o start old had new frames was is w past p now f found so move
 
 -- a receipt is the answer of the call
 does_receipt : {D : Type 0} (seen : D → DiskSeen) (o : Opening) (start : Start) (desk : State D) (log : Seen) (w : Working) (past : List Event) (c : Command) (n : Note)
-    → SoFar seen o start desk log w past [] → IsLawful o None past (event.Receipt (next_receipt desk w n)) → IsPromised o start.pages (entries past) (own w.pass past) (event.Receipt (next_receipt desk w n)) → IsTrueNote (entries past) (held_by past w.pass) n
+    → HasPlayed seen o start desk log w past [] → IsLawful o None past (event.Receipt (next_receipt desk w n)) → IsPromised o start.pages (entries past) (own w.pass past) (event.Receipt (next_receipt desk w n)) → IsTrueNote (entries past) (held_by past w.pass) n
     → ((h : List Entry) → Answers h w.pass c past (event.Receipt (next_receipt desk w n))) → Does seen o start desk log (with_note desk w n) past c
 does_receipt seen o start desk log w past c n so lawful promised exact answers = record {
   answer = event.Receipt (next_receipt desk w n);
@@ -469,7 +469,7 @@ is_held past c p h some = ap (λ (x : Option Held). cond (is_none x) (Some cause
 
 -- the receipt of a read of a page that is not held
 pub does_unheld_read : {D : Type 0} (seen : D → DiskSeen) (o : Opening) (start : Start) (desk : State D) (log : Seen) (w : Working) (past : List Event) (p : PageId) (at len : ℕ)
-    → SoFar seen o start desk log w past [] → newest_fix w.fixed p ≡ None
+    → HasPlayed seen o start desk log w past [] → newest_fix w.fixed p ≡ None
     → Does seen o start desk log (with_note desk w (note.Refused (call.Read p at len) cause.Unheld)) past (command.Read p at len)
 does_unheld_read seen o start desk log w past p at len so none =
     let n = note.Refused (call.Read p at len) cause.Unheld in
@@ -481,7 +481,7 @@ does_unheld_read seen o start desk log w past p at len so none =
 
 -- and of an unfix of one
 pub does_unheld_unfix : {D : Type 0} (seen : D → DiskSeen) (o : Opening) (start : Start) (desk : State D) (log : Seen) (w : Working) (past : List Event) (p : PageId)
-    → SoFar seen o start desk log w past [] → newest_fix w.fixed p ≡ None → Does seen o start desk log (with_note desk w (note.Refused (call.Unfix p) cause.Unheld)) past (command.Unfix p)
+    → HasPlayed seen o start desk log w past [] → newest_fix w.fixed p ≡ None → Does seen o start desk log (with_note desk w (note.Refused (call.Unfix p) cause.Unheld)) past (command.Unfix p)
 does_unheld_unfix seen o start desk log w past p so none =
     let n = note.Refused (call.Unfix p) cause.Unheld in
     let e : Event = event.Receipt (next_receipt desk w n) in
@@ -491,7 +491,7 @@ does_unheld_unfix seen o start desk log w past p so none =
     (wordless (entries past) (held_by past w.pass) _ cause.Unheld refl refl refl) (λ h. subst M (sym here) refl)
 
 pub does_unfix : {D : Type 0} (seen : D → DiskSeen) (o : Opening) (start : Start) (desk : State D) (log : Seen) (w : Working) (past : List Event) (p : PageId) (h : Held)
-    → SoFar seen o start desk log w past [] → newest_fix w.fixed p ≡ Some h → Does seen o start desk log (with_note desk w (note.Unfixed p h.frame h.number)) past (command.Unfix p)
+    → HasPlayed seen o start desk log w past [] → newest_fix w.fixed p ≡ Some h → Does seen o start desk log (with_note desk w (note.Unfixed p h.frame h.number)) past (command.Unfix p)
 does_unfix seen o start desk log w past p h so newest =
     let n = note.Unfixed p h.frame h.number in
     let e : Event = event.Receipt (next_receipt desk w n) in
@@ -512,7 +512,7 @@ value_read o seen v (Some (Some c)) at bytes is read =
     subst P (sym is) read
 
 does_copy : {D : Type 0} (seen : D → DiskSeen) (o : Opening) (start : Start) (desk : State D) (frames : Plain) (log : Seen) (w : Working) (past : List Event) (p : PageId) (at len : ℕ) (held : Held) (bytes : List ℕ) (clock : ℕ)
-    → SoFar seen o start desk log w past [] → StandsBehind seen o start desk frames → newest_fix w.fixed p ≡ Some held → home desk.history p ≡ Some held.frame → length bytes ≡ len
+    → HasPlayed seen o start desk log w past [] → StandsBehind seen o start desk frames → newest_fix w.fixed p ≡ Some held → home desk.history p ≡ Some held.frame → length bytes ≡ len
     → IsRangeOf (row_in frames.rows held.frame).image at (length bytes) bytes → clock ≡ change desk.history held.frame
     → Does seen o start desk log (with_note desk w (note.Copied p at bytes clock)) past (command.Read p at len)
 does_copy seen o start desk frames log w past p at len held bytes clock so stands newest resident long read unchanged =
@@ -535,7 +535,7 @@ does_copy seen o start desk frames log w past p at len held bytes clock so stand
     }) (record { reached = record { places = tt; inside = tt }; none_due = is_held past w.pass p held here })) (record { inside = tt; told = tt }, tt) tt (λ h. subst M (sym here) (bytes, clock, long, refl))
 
 pub does_copied : {D : Type 0} (seen : D → DiskSeen) (o : Opening) (start : Start) (desk : State D) (frames : Plain) (log : Seen) (w : Working) (past : List Event) (p : PageId) (at len : ℕ) (held : Held) (bytes : List ℕ) (clock : ℕ)
-    → SoFar seen o start desk log w past [] → StandsBehind seen o start desk frames → newest_fix w.fixed p ≡ Some held → home desk.history p ≡ Some held.frame → length bytes ≡ len
+    → HasPlayed seen o start desk log w past [] → StandsBehind seen o start desk frames → newest_fix w.fixed p ≡ Some held → home desk.history p ≡ Some held.frame → length bytes ≡ len
     → IsRangeOf (row_in frames.rows held.frame).image at len bytes → clock ≡ change desk.history held.frame
     → Does seen o start desk log (with_note desk w (note.Copied p at bytes clock)) past (command.Read p at len)
 does_copied seen o start desk frames log w past p at len held bytes clock so stands newest resident long read unchanged =
@@ -544,7 +544,7 @@ does_copied seen o start desk frames log w past p at len held bytes clock so sta
 
 -- the receipt of a put on a page that is not held
 pub does_unheld_put : {D : Type 0} (seen : D → DiskSeen) (o : Opening) (start : Start) (desk : State D) (log : Seen) (w : Working) (past : List Event) (p : PageId) (at : ℕ) (bytes : List ℕ)
-    → SoFar seen o start desk log w past [] → newest_fix w.fixed p ≡ None
+    → HasPlayed seen o start desk log w past [] → newest_fix w.fixed p ≡ None
     → Does seen o start desk log (with_note desk w (note.Refused (call.Put p at bytes) cause.Unheld)) past (command.Put p at bytes)
 does_unheld_put seen o start desk log w past p at bytes so none =
     let n = note.Refused (call.Put p at bytes) cause.Unheld in
@@ -556,7 +556,7 @@ does_unheld_put seen o start desk log w past p at bytes so none =
 
 -- an entry that answers a put of a page that is held
 does_put_entry : {D : Type 0} (seen : D → DiskSeen) (o : Opening) (start : Start) (old new : State D) (was is : Seen) (w : Working) (past : List Event) (p : PageId) (at : ℕ) (bytes : List ℕ) (held : Held) (k : Kind)
-    → SoFar seen o start old was w past [] → Moves seen old new was is → IsAppended old new (me w) k → kind_answers k ≡ true → held_after_kind w.next k w.fixed ≡ w.fixed → newest_fix w.fixed p ≡ Some held
+    → HasPlayed seen o start old was w past [] → Moves seen old new was is → IsAppended old new (me w) k → kind_answers k ≡ true → held_after_kind w.next k w.fixed ≡ w.fixed → newest_fix w.fixed p ≡ Some held
     → IsKindWithin start (seen new.disk).faults is.faults k → disk_faults_after k (disk_faults old.history) ≤ (seen new.disk).faults → log_faults_after k (log_faults old.history) ≤ is.faults
     → MayPrecede old.history [] k → IsLegalKind o (entries past) (own w.pass past) w.pass w.next k → IfSome (departure_in k) (λ d. IsUnfixed past d.page) → IfSome (write_in k) (λ v. IsCoveredWrite (entries past) v.page v.lsn v.upto)
     → IsCausedKind o past (entries past) (own w.pass past) w.pass w.next k → IsVictimKind o.config (entries past) w.pass w.next k → IsWithdrawalKind o.config (entries past) w.pass w.next k → IsTrueKind old.history w.fixed k
@@ -569,7 +569,7 @@ does_put_entry seen o start old new was is w past p at bytes held k so moves ent
     let here : newest_fix (held_by past w.pass) p ≡ Some held = ap (λ fixes. newest_fix fixes p) so.held ∙ newest in
     let M : Option Held → Type 0 = λ found. MatchOption found (IsReceiptOf (note.Refused (call.Put p at bytes) cause.Unheld) e)
     (λ _. ((from : ℕ) × (end : ℕ) × IsEntryOf (kind.Put p at bytes from end) e) ⊎ IsRefusal (call.Put p at bytes) e) in
-    let F : List Held → Type 0 = λ fixes. AreFalling (w.next + 1) fixes in
+    let F : List Held → Type 0 = λ fixes. FixesFall (w.next + 1) fixes in
     let I : List Entry → Type 0 = λ h. IsLogged is h in
     let all : IsLogged is (x ∷ old.history) = subst I entry.history moves.logged in
     let there = so_far_placed seen o start old new was is w past so moves all.1 in
@@ -592,7 +592,7 @@ does_put_entry seen o start old new was is w past p at bytes held k so moves ent
     }
 
 does_put : {D : Type 0} {rows more : List Row} (seen : D → DiskSeen) (o : Opening) (start : Start) (old new : State D) (was is : Seen) (w : Working) (past : List Event) (p : PageId) (at : ℕ) (bytes : List ℕ) (held : Held) (done : PutDone)
-    → SoFar seen o start old was w past [] → newest_fix w.fixed p ≡ Some held → (by : IsPutBy old new rows more (me w) p at bytes done) → was.end + 21 + length bytes ≤ done.lsn
+    → HasPlayed seen o start old was w past [] → newest_fix w.fixed p ≡ Some held → (by : IsPutBy old new rows more (me w) p at bytes done) → was.end + 21 + length bytes ≤ done.lsn
     → log_end old.history ≤ was.end → IsLater was is → (IsLogged was old.history → IsLogged is new.history) → IsRange (page_bytes old.config.page) at (length bytes) → mark old.config.first old.history + ANSWER_NEED ≤ LIMIT
     → Does seen o start new is (with_answer w (kind.Put p at bytes by.start done.lsn)) past (command.Put p at bytes)
 does_put seen o start old new was is w past p at bytes held done so newest by span known later logged body room =
@@ -613,7 +613,7 @@ does_put seen o start old new was is w past p at bytes held done so newest by sp
     (record { inside = tt; told = tt }, tt) refl (so.empty_handed refl) (inl (by.start, done.lsn, refl))
 
 does_spent : {D : Type 0} (seen : D → DiskSeen) (o : Opening) (start : Start) (old new : State D) (was is : Seen) (w : Working) (past : List Event) (p : PageId) (at : ℕ) (bytes : List ℕ) (held : Held) (end : ℕ)
-    → SoFar seen o start old was w past [] → newest_fix w.fixed p ≡ Some held → IsSpentBy old new (me w) p at bytes was.end is.end end
+    → HasPlayed seen o start old was w past [] → newest_fix w.fixed p ≡ Some held → IsSpentBy old new (me w) p at bytes was.end is.end end
     → log_end old.history ≤ was.end → IsLater was is → (IsLogged was old.history → IsLogged is new.history) → mark old.config.first old.history + ANSWER_NEED ≤ LIMIT
     → Does seen o start new is (with_answer w (kind.Refused (call.Put p at bytes) (cause.LogSpent end))) past (command.Put p at bytes)
 does_spent seen o start old new was is w past p at bytes held end so newest spent known later logged room =
@@ -632,7 +632,7 @@ does_spent seen o start old new was is w past p at bytes held end so newest spen
 
 -- the same, where some fix is the newest
 pub does_put_held : {D : Type 0} {rows more : List Row} (seen : D → DiskSeen) (o : Opening) (start : Start) (old new : State D) (was is : Seen) (w : Working) (past : List Event) (p : PageId) (at : ℕ) (bytes : List ℕ) (found : Option Held) (done : PutDone)
-    → SoFar seen o start old was w past [] → newest_fix w.fixed p ≡ found → IsSome found → (by : IsPutBy old new rows more (me w) p at bytes done) → was.end + 21 + length bytes ≤ done.lsn
+    → HasPlayed seen o start old was w past [] → newest_fix w.fixed p ≡ found → IsSome found → (by : IsPutBy old new rows more (me w) p at bytes done) → was.end + 21 + length bytes ≤ done.lsn
     → log_end old.history ≤ was.end → IsLater was is → (IsLogged was old.history → IsLogged is new.history) → IsRange (page_bytes old.config.page) at (length bytes) → mark old.config.first old.history + ANSWER_NEED ≤ LIMIT
     → Does seen o start new is (with_answer w (kind.Put p at bytes by.start done.lsn)) past (command.Put p at bytes)
 does_put_held seen o start old new was is w past p at bytes None done so newest some by span known later logged body room = absurd (cc)
@@ -640,7 +640,7 @@ does_put_held seen o start old new was is w past p at bytes (Some held) done so 
     does_put seen o start old new was is w past p at bytes held done so newest by span known later logged body room
 
 pub does_spent_held : {D : Type 0} (seen : D → DiskSeen) (o : Opening) (start : Start) (old new : State D) (was is : Seen) (w : Working) (past : List Event) (p : PageId) (at : ℕ) (bytes : List ℕ) (found : Option Held) (end : ℕ)
-    → SoFar seen o start old was w past [] → newest_fix w.fixed p ≡ found → IsSome found → IsSpentBy old new (me w) p at bytes was.end is.end end
+    → HasPlayed seen o start old was w past [] → newest_fix w.fixed p ≡ found → IsSome found → IsSpentBy old new (me w) p at bytes was.end is.end end
     → log_end old.history ≤ was.end → IsLater was is → (IsLogged was old.history → IsLogged is new.history) → mark old.config.first old.history + ANSWER_NEED ≤ LIMIT
     → Does seen o start new is (with_answer w (kind.Refused (call.Put p at bytes) (cause.LogSpent end))) past (command.Put p at bytes)
 does_spent_held seen o start old new was is w past p at bytes None end so newest some spent known later logged room = absurd (cc)

@@ -23,7 +23,7 @@ use Rattle.desk.specs.State.{State}
 use Rattle.desk.specs.Steps.{row_in}
 use Rattle.desk.specs.Tied.{IsTied}
 use Rattle.desk.specs.Victims.{AreFoundOn}
-use Rattle.script_run.specs.Work.{IsReady, AreApart, AreHoused, fixes_in}
+use Rattle.script_run.specs.Work.{IsWorkerReady, AreHomesApart, AreHoused, fixes_of_frame}
 use Rattle.script_run.proofs.Fixes.{one_page, same_self, number_is}
 
 one_frame : (h : List Entry) (p : PageId) (f g : ℕ) → home h p ≡ Some f → home h p ≡ Some g → f ≡ g
@@ -33,7 +33,7 @@ counted : (x : Held) (fixed : List Held) (p : PageId) → fixes_on (x ∷ fixed)
 counted x fixed p = sum_by-cons (λ (y : Held). cond (same_page y.page p) 1 0) x fixed
 
 -- a fix of the frame is one of its page
-alike : (h : List Entry) (x : Held) (p : PageId) (f : ℕ) → AreApart h → home h x.page ≡ Some x.frame → home h p ≡ Some f → same_page x.page p ≡ nat_eq x.frame f
+alike : (h : List Entry) (x : Held) (p : PageId) (f : ℕ) → AreHomesApart h → home h x.page ≡ Some x.frame → home h p ≡ Some f → same_page x.page p ≡ nat_eq x.frame f
 alike h x p f apart there here = cases (same_page x.page p) refl (nat_eq x.frame f) refl
   where
     frame_is : same_page x.page p ≡ true → x.frame ≡ f
@@ -49,10 +49,10 @@ alike h x p f apart there here = cases (same_page x.page p) refl (nat_eq x.frame
     cases false s true t = let bad : true ≡ false = sym (page_is (number_is x.frame f t)) ∙ s in absurd (cc)
 
 -- the fixes of a frame are those of the page that is at home there
-same_fixes : (h : List Entry) (fixed : List Held) (p : PageId) (f : ℕ) → AreApart h → AreHoused h fixed → home h p ≡ Some f → fixes_in f fixed ≡ fixes_on fixed p
+same_fixes : (h : List Entry) (fixed : List Held) (p : PageId) (f : ℕ) → AreHomesApart h → AreHoused h fixed → home h p ≡ Some f → fixes_of_frame f fixed ≡ fixes_on fixed p
 same_fixes h [] p f apart housed here = refl
 same_fixes h (x ∷ fixed) p f apart housed here =
-    more (nat_eq x.frame f) (fixes_in f fixed) (fixes_on fixed p) (same_fixes h fixed p f apart housed.1 here)
+    more (nat_eq x.frame f) (fixes_of_frame f fixed) (fixes_on fixed p) (same_fixes h fixed p f apart housed.1 here)
     ∙ ap (λ (b : Bool). cond b 1 0 + fixes_on fixed p) (sym (alike h x p f apart housed.0 here)) ∙ sym (counted x fixed p)
   where
     more : (b : Bool) (m n : ℕ) → m ≡ n → cond b (m + 1) m ≡ cond b 1 0 + n
@@ -60,7 +60,7 @@ same_fixes h (x ∷ fixed) p f apart housed here =
     more false m n same = omega (arith, same)
 
 -- a page whose frame has no fix is not held
-pub none_newest : (h : List Entry) (fixed : List Held) (p : PageId) (f : ℕ) → AreHoused h fixed → home h p ≡ Some f → fixes_in f fixed ≡ 0 → newest_fix fixed p ≡ None
+pub none_newest : (h : List Entry) (fixed : List Held) (p : PageId) (f : ℕ) → AreHoused h fixed → home h p ≡ Some f → fixes_of_frame f fixed ≡ 0 → newest_fix fixed p ≡ None
 none_newest h [] p f housed here none = refl
 none_newest h (x ∷ fixed) p f housed here none = cases (none_newest h fixed p f housed.1 here other.1) (same_page x.page p) refl
   where
@@ -68,8 +68,8 @@ none_newest h (x ∷ fixed) p f housed here none = cases (none_newest h fixed p 
     free true n e = absurd (omega (arith, e))
     free false n e = (refl, e)
 
-    other : (nat_eq x.frame f ≡ false) × (fixes_in f fixed ≡ 0)
-    other = free (nat_eq x.frame f) (fixes_in f fixed) none
+    other : (nat_eq x.frame f ≡ false) × (fixes_of_frame f fixed ≡ 0)
+    other = free (nat_eq x.frame f) (fixes_of_frame f fixed) none
 
     cases : newest_fix fixed p ≡ None → (b : Bool) → same_page x.page p ≡ b → cond b (Some x) (newest_fix fixed p) ≡ None
     cases rest true s =
@@ -86,20 +86,20 @@ resident_at h f true p vacant here = refl
 resident_at h f false p vacant here = absurd (vacant refl p here)
 
 -- a fix of a frame is of a page that is at home there
-held_there : (h : List Entry) (f : ℕ) (fixed : List Held) → AreHoused h fixed → 0 < fixes_in f fixed → (p : PageId) × (home h p ≡ Some f)
+held_there : (h : List Entry) (f : ℕ) (fixed : List Held) → AreHoused h fixed → 0 < fixes_of_frame f fixed → (p : PageId) × (home h p ≡ Some f)
 held_there h f [] housed some = absurd (omega (arith, some))
 held_there h f (x ∷ fixed) housed some = cases (held_there h f fixed housed.1) (nat_eq x.frame f) refl some
   where
-    cases : (0 < fixes_in f fixed → (p : PageId) × (home h p ≡ Some f)) → (b : Bool) → nat_eq x.frame f ≡ b → 0 < cond b (fixes_in f fixed + 1) (fixes_in f fixed) → (p : PageId) × (home h p ≡ Some f)
+    cases : (0 < fixes_of_frame f fixed → (p : PageId) × (home h p ≡ Some f)) → (b : Bool) → nat_eq x.frame f ≡ b → 0 < cond b (fixes_of_frame f fixed + 1) (fixes_of_frame f fixed) → (p : PageId) × (home h p ≡ Some f)
     cases rest true t more = (x.page, housed.0 ∙ ap Some (number_is x.frame f t))
     cases rest false t more = rest more
 
 -- a word that was found on a frame, at a history that leaves homes and changes
 exact_inside : (size frames : ℕ) (h mid : List Entry) (r : Row) (f : ℕ) (fixed : List Held) (w : Word)
     → ((p : PageId) → home mid p ≡ home h p) → ((g : ℕ) → change mid g ≡ change h g)
-    → IsTied size frames h r f → r.held ≡ Some (fixes_in f fixed) → AreApart h → AreHoused h fixed → 0 < fixes_of w → IsFound r 0 w → IsTrueWord mid fixed f w
+    → IsTied size frames h r f → r.held ≡ Some (fixes_of_frame f fixed) → AreHomesApart h → AreHoused h fixed → 0 < fixes_of w → IsFound r 0 w → IsTrueWord mid fixed f w
 exact_inside size frames h mid r f fixed w homes changes tied held apart housed some found =
-    let told = told_fixes r.held (fixes_in f fixed) w r.latched held found.exact in
+    let told = told_fixes r.held (fixes_of_frame f fixed) w r.latched held found.exact in
     let page = held_there h f fixed housed (omega (arith, some, told.0)) in
     let one : tenant mid f ≡ Some page.0 = tenant_is mid f page.0 (homes page.0 ∙ page.1) (λ q there. apart q page.0 f (sym (homes q) ∙ there) page.1) in
     record {
@@ -131,7 +131,7 @@ is_there rows f w some found = cases (nat_le (length rows) f) refl
 
 pub exact_words : {D : Type 0} (seen : D → DiskSeen) (desk : State D) (frames : Plain) (fixed : List Held) (mid : List Entry) (words : List (ℕ × Word))
     → ((p : PageId) → home mid p ≡ home desk.history p) → ((g : ℕ) → change mid g ≡ change desk.history g)
-    → IsReady seen desk frames fixed → AreFoundOn frames.rows words → AreTrueWords mid fixed words
+    → IsWorkerReady seen desk frames fixed → AreFoundOn frames.rows words → AreTrueWords mid fixed words
 exact_words seen desk frames fixed mid [] homes changes ready found = tt
 exact_words seen desk frames fixed mid (x ∷ words) homes changes ready found =
     let inside = is_there frames.rows x.0 x.1 found.1 found.0 in (

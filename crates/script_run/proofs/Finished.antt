@@ -31,15 +31,15 @@ use Rattle.trail.specs.Laws.{IsLawful, IsSettled, AreLawful}
 use Rattle.trail.specs.Promises.{ArePromised}
 use Rattle.trail.specs.Merging.{AreInOrder, IsMerged, IsPlaced}
 use Rattle.desk.specs.State.{State}
-use Rattle.desk.specs.Steps.{IsFresh}
+use Rattle.desk.specs.Steps.{IsNewDesk}
 use Rattle.desk.specs.Logged.{IsLogged}
 use Rattle.desk.specs.Changes.{WritesBack}
 use Rattle.desk.specs.Ledger.{entry_behind}
 use Rattle.script_text.specs.declared.script.Command.{Command}
-use Rattle.script_run.specs.Todo.{GoesOn, Todo, answers_of}
+use Rattle.script_run.specs.Todo.{HistoryGoesOn, Todo, answers_of}
 use Rattle.script_run.specs.Openings.{Start, opening_of, AreFaultsWithin}
-use Rattle.script_run.specs.Work.{Working, SoFar, Worked, AreOf, AreSteady, IsCalling}
-use Rattle.script_run.specs.Runs.{IsRunOf, IsClosed, IsFlushedWith, AreOfOneThread, closing_of}
+use Rattle.script_run.specs.Work.{Working, HasPlayed, Worked, AreOf, AreSteady, IsWorkersCall}
+use Rattle.script_run.specs.Runs.{IsRunOf, IsClosingClean, IsFlushedWith, AreOfOneThread, closing_of}
 use Rattle.script_run.proofs.Calling.{calling_at_start, most_parts, numbered_by, own_all, own_more, together_by}
 use Rattle.script_run.proofs.Handing.{all_followed}
 use Rattle.script_run.proofs.Growing.{room_of}
@@ -50,11 +50,11 @@ use Rattle.script_run.proofs.Values.{faults_up}
 
 -- before the first call
 pub so_far_new : {D : Type 0} (seen : D → DiskSeen) (config : Config) (base : Option (PageId → Option Content)) (start : Start) (desk : State D) (log : Seen) (w : Working) (pass : ℕ) (disk : D)
-    → IsFresh desk config 0 disk → w ≡ record { pass = pass; next = 1; fixed = []; account = [] } → ((s : ℕ) → start.pages s ≡ pages_in (seen disk).spaces s)
+    → IsNewDesk desk config 0 disk → w ≡ record { pass = pass; next = 1; fixed = []; account = [] } → ((s : ℕ) → start.pages s ≡ pages_in (seen disk).spaces s)
     → start.disk_faults ≤ (seen disk).faults → start.log_faults ≤ log.faults
-    → SoFar seen (opening_of config base) start desk log w [] []
+    → HasPlayed seen (opening_of config base) start desk log w [] []
 so_far_new {D} seen config base start desk log w pass disk fresh new same disk_low log_low =
-    let W : Working → Type 0 = λ x. SoFar seen (opening_of config base) start desk log x [] [] in
+    let W : Working → Type 0 = λ x. HasPlayed seen (opening_of config base) start desk log x [] [] in
     let none : desk.history ≡ [] = fresh.history in
     subst W (sym new) (record {
       good = tt;
@@ -251,7 +251,7 @@ Merges = (first : ℕ) (past : List Event) (es : List Entry) (rs : List Receipt)
 
 -- what a worker leaves, with the runner's writes and its closing entry, is a run
 pub finished : {D : Type 0} (seen : D → DiskSeen) (o : Opening) (start : Start) (desk new : State D) (was is : Seen) (w : Working) (commands : List Command) (fault : Option FaultAt) (history : List Entry) (account : List Receipt) (trail : Events)
-    → FrontLeaves → w.pass ≡ 1 → Worked seen o start desk was w [] commands → (closed : IsClosed desk new fault) → IfSome fault (λ f. IsFlushedWith (seen desk.disk).faults (seen new.disk).faults was.faults is.faults f)
+    → FrontLeaves → w.pass ≡ 1 → Worked seen o start desk was w [] commands → (closed : IsClosingClean desk new fault) → IfSome fault (λ f. IsFlushedWith (seen desk.disk).faults (seen new.disk).faults was.faults is.faults f)
     → reverse history ≡ new.history → reverse account ≡ w.account → Merges → trail.first ≡ o.first
     → IsMerged history account trail.events
     → (seen desk.disk).faults ≤ (seen new.disk).faults → was.faults ≤ is.faults → desk.config.first + length desk.history + 16385 ≤ LIMIT
@@ -260,7 +260,7 @@ finished {D} seen o start desk new was is w commands fault history account trail
     let n = closed.written in
     let k = closing_of fault n in
     let more = done.more in
-    let S : List Event → Type 0 = λ past. SoFar seen o start desk was w past [] in
+    let S : List Event → Type 0 = λ past. HasPlayed seen o start desk was w past [] in
     let so = subst S (append_nil more) done.so_far in
     let room = room_of seen o start desk was w more [] 16385 so left in
     let O : ℕ → Type 0 = λ c. AreOf c more in
@@ -268,7 +268,7 @@ finished {D} seen o start desk new was is w commands fault history account trail
     let E1 : ℕ → Type 0 = λ n. AreTrue (Some n) more in
     let exact : AreTrue (Some 1) more = subst E1 pass (words_of o (Some w.pass) more so.good) in
     let none : own 0 more ≡ [] = own_other more 1 0 of_one refl in
-    let calls : IsCalling (own 0 more) 1 [] = let C : List Event → Type 0 = λ mine. IsCalling mine 1 [] in subst C (sym none) calling_at_start in
+    let calls : IsWorkersCall (own 0 more) 1 [] = let C : List Event → Type 0 = λ mine. IsWorkersCall mine 1 [] in subst C (sym none) calling_at_start in
     let R : ℕ → List Entry → Type 0 = λ m h. mark m h + 16385 ≤ LIMIT in
     let room_here : mark o.first (entries more) + 16385 ≤ LIMIT = subst (λ h. R o.first h) (sym so.entries_are) (subst (λ m. R m desk.history) so.first_is room) in
     let disk_is = (seen new.disk).faults in
@@ -316,9 +316,9 @@ finished {D} seen o start desk new was is w commands fault history account trail
     let answers : (caller : ℕ) → answers_of caller trail.events ≡ reverse (filter (mine caller) past) = λ caller. ap (answers_of caller) events ∙ filter_reverse (mine caller) past in
     let mine_one : own 1 past ≡ more = f.others 1 refl ∙ own_all 1 more of_one in
     let runs_last : is_answered 1 (own 0 past) ≡ true = ap (λ (b : Bool). b || is_answered 1 (own 0 before)) c.answers in
-    let N : ℕ → Type 0 = λ n. IsCalling (own n more) w.next [] in
-    let calling : IsCalling (own 1 more) w.next [] = subst N pass so.calls in
-    let B : List Event → Type 0 = λ l. IsCalling l w.next [] in
+    let N : ℕ → Type 0 = λ n. IsWorkersCall (own n more) w.next [] in
+    let calling : IsWorkersCall (own 1 more) w.next [] = subst N pass so.calls in
+    let B : List Event → Type 0 = λ l. IsWorkersCall l w.next [] in
     let count : calls_of (own 1 more) + 1 ≡ w.next = calling.count in
     let settled : AllByRecursion (λ (e : Event). is_answered (number_of e) more ≡ true) more =
     all_answered _ o more 1 w.next more so.good of_one (omega (arith, count)) (subst B (own_all 1 more of_one) calling).settled in
@@ -335,8 +335,8 @@ finished {D} seen o start desk new was is w commands fault history account trail
     let T : List Event → Type 0 = λ l. Todo (entries (reverse trail.events)) 1 commands [] l in
     let K : ℕ → Type 0 = λ m. Todo (entries (reverse trail.events)) m commands [] (reverse (filter is_answer more)) in
     let C : List Entry → Type 0 = λ h. dirty h ≡ [] in
-    let goes : GoesOn (more ++ []) (entries (reverse trail.events)) =
-    subst (λ l. GoesOn l (entries (reverse trail.events))) (sym (append_nil more)) (goes_back_all (close ∷ f.writes) more (entries (reverse trail.events)) (subst (λ l. GoesOn past (entries l)) (sym back) (goes_here past))) in
+    let goes : HistoryGoesOn (more ++ []) (entries (reverse trail.events)) =
+    subst (λ l. HistoryGoesOn l (entries (reverse trail.events))) (sym (append_nil more)) (goes_back_all (close ∷ f.writes) more (entries (reverse trail.events)) (subst (λ l. HistoryGoesOn past (entries l)) (sym back) (goes_here past))) in
     let here : entries (reverse trail.events) ≡ new.history = ap entries back ∙ all in (
       record {
         lawful = record {

@@ -27,14 +27,14 @@ use Rattle.desk.specs.declared.calls.FixErr.{FixErr}
 use Rattle.desk.specs.declared.calls.FixErr.TheVariants as refusal
 use Rattle.script_text.specs.declared.script.Command.TheVariants as command
 use Rattle.script_run.specs.Openings.{Start, opened_of}
-use Rattle.script_run.specs.Work.{Working, SoFar, StandsBehind, IsBehindIt, IsReady, Does, Along, RefusesFix, with_answer}
+use Rattle.script_run.specs.Work.{Working, HasPlayed, StandsBehind, IsBehindIt, IsWorkerReady, Does, Along, RefusesFix, with_answer}
 use Rattle.script_run.proofs.Growing.{me, Left, Moves, on_some, room_of}
 use Rattle.script_run.proofs.Along.{Keeps, Ties, along_hit, along_miss, along_refused, along_unread}
 use Rattle.script_run.proofs.Doing.{does_hit, does_miss, does_outside, does_full, does_unseated, does_uncovered, does_unwritten, does_faulted, does_unsound}
 
 -- what each fix of the worker leaves, beside its answer
 pub record Fixes {D : Type 0} (seen : D → DiskSeen) (old new : State D) (before after : Plain) (was is : Seen) (w : Working) : Type 0 where
-  pub ready : IsReady seen old before w.fixed
+  pub ready : IsWorkerReady seen old before w.fixed
   pub left : Left seen old new
   pub grown : length new.history ≤ length old.history + 4
   pub behind : Keeps seen old new before after
@@ -45,7 +45,7 @@ pub record Fixes {D : Type 0} (seen : D → DiskSeen) (old new : State D) (befor
   pub room : old.config.first + length old.history + FIX_NEED ≤ LIMIT
 
 -- from what the desk's call keeps
-pub fixes_of : {D : Type 0} (seen : D → DiskSeen) (most : ℕ) (m n : Moment D) (before after : Plain) (w : Working) → IsReady seen m.desk before w.fixed
+pub fixes_of : {D : Type 0} (seen : D → DiskSeen) (most : ℕ) (m n : Moment D) (before after : Plain) (w : Working) → IsWorkerReady seen m.desk before w.fixed
     → desk.Keeps seen most (record m { frames = seen_of before }) (record n { frames = seen_of after }) → log_end m.desk.history ≤ m.log.seen.end → most ≤ 4 → m.desk.config.first + length m.desk.history + FIX_NEED ≤ LIMIT
     → Fixes seen m.desk n.desk before after m.log.seen n.log.seen w
 fixes_of seen most m n before after w ready keeps known most_is room = record {
@@ -75,12 +75,12 @@ unsound_fix seen m n by held p now (Ok g) is o bad behind same = absurd (cc)
 unsound_fix seen m n by held p now (Err e) is o bad behind same = is.unsound o bad behind (err_is e (refusal.BadPage bad) same)
 
 pub moves_of : {D : Type 0} (seen : D → DiskSeen) (o : Opening) (start : Start) (old new : State D) (before after : Plain) (was is : Seen) (w : Working) (past : List Event)
-    → Fixes seen old new before after was is w → SoFar seen o start old was w past [] → Moves seen old new was is
+    → Fixes seen old new before after was is w → HasPlayed seen o start old was w past [] → Moves seen old new was is
 moves_of seen o start old new before after was is w past fixes so = record { left = fixes.left; later = fixes.later.faults; logged = fixes.logged so.logged }
 
 -- the laws of the command, over any trail so far
 abbrev pub Did : {D : Type 0} → (D → DiskSeen) → State D → State D → Plain → Seen → Seen → Working → Working → PageId → ℕ → Type 0
-Did seen old new before was is w v p now = (o : Opening) (start : Start) (past : List Event) → SoFar seen o start old was w past [] → StandsBehind seen o start old before → Does seen o start new is v past (command.Fix p now)
+Did seen old new before was is w v p now = (o : Opening) (start : Start) (past : List Event) → HasPlayed seen o start old was w past [] → StandsBehind seen o start old before → Does seen o start new is v past (command.Fix p now)
 
 pub granted_along : {D : Type 0} (seen : D → DiskSeen) (old new : State D) (before after : Plain) (was is : Seen) (w : Working) (p : PageId) (now : ℕ) (g : Granted)
     → Fixes seen old new before after was is w → length w.fixed < 64 → IsGrantedBy seen old new before.rows after.rows (me w) p now g

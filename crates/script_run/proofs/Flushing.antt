@@ -26,7 +26,7 @@ use Rattle.desk.specs.Changes.{IsWriteBack, WritesBack}
 use Rattle.desk.specs.Ledger.{entry_behind}
 use Rattle.script_run.specs.Openings.{Start, AreFaultsWithin}
 use Rattle.script_run.specs.Runs.{AreOfOneThread}
-use Rattle.script_run.specs.Work.{AreOf, AreSteady, IsCalling}
+use Rattle.script_run.specs.Work.{AreOf, AreSteady, IsWorkersCall}
 use Rattle.script_run.proofs.Fixes.{same_self}
 use Rattle.script_run.proofs.Calling.{calling_under, numbered_by, own_more, together_by}
 
@@ -46,7 +46,7 @@ pub record Flushed (by : Caller) (o : Opening) (start : Start) (disk log : ℕ) 
   pub promised : ArePromised o start.pages (writes ++ past)
   pub entries_are : entries (writes ++ past) ≡ mid
   pub receipts_are : receipts (writes ++ past) ≡ receipts past
-  pub calls : IsCalling (own by.pass (writes ++ past)) by.number made
+  pub calls : IsWorkersCall (own by.pass (writes ++ past)) by.number made
   pub began : mid ≡ made ++ entries past
   pub are_writes : AreWrites (kinds made)
   pub count : length made ≡ n
@@ -79,7 +79,7 @@ skip_both false x y = refl
 found_first : (ds : List Dirty) (d : Dirty) (rest : List Dirty) → ds ≡ d ∷ rest → dirt_of ds d.page ≡ Some d
 found_first ds d rest is = ap (λ (l : List Dirty). dirt_of l d.page) is ∙ ap (λ (b : Bool). cond b (Some d) (dirt_of rest d.page)) (same_self d.page)
 
-flushed_none : (by : Caller) (o : Opening) (start : Start) (disk log : ℕ) (past : List Event) → AreLawful o None past → ArePromised o start.pages past → IsCalling (own by.pass past) by.number []
+flushed_none : (by : Caller) (o : Opening) (start : Start) (disk log : ℕ) (past : List Event) → AreLawful o None past → ArePromised o start.pages past → IsWorkersCall (own by.pass past) by.number []
     → AreFaultsWithin start disk log (entries past) → Flushed by o start disk log past 0 (entries past)
 flushed_none by o start disk log past good promised calls faults = record {
   writes = [];
@@ -150,7 +150,7 @@ flushed_more by o start disk log past n mid new front f back =
     let left : dirty new ≡ back.rest = ap dirty back.entry ∙ front mid x d back.rest d.newest back.upto back.first_is refl in
     let F : List Entry → Type 0 = λ h. AreFaultsWithin start disk log h in
     let S : List Entry → Type 0 = λ h. AreSteady h in
-    let C : List Event → Type 0 = λ mine. IsCalling mine by.number (x ∷ f.made) in
+    let C : List Event → Type 0 = λ mine. IsWorkersCall mine by.number (x ∷ f.made) in
     record {
       writes = e ∷ f.writes;
       made = x ∷ f.made;
@@ -184,7 +184,7 @@ flushed_more by o start disk log past n mid new front f back =
 
 -- so many writes behind a trail
 pub flushed : (by : Caller) (o : Opening) (start : Start) (disk log : ℕ) (past : List Event) (n : ℕ) (mid : List Entry) → FrontLeaves
-    → AreLawful o None past → ArePromised o start.pages past → IsCalling (own by.pass past) by.number [] → AreFaultsWithin start disk log (entries past)
+    → AreLawful o None past → ArePromised o start.pages past → IsWorkersCall (own by.pass past) by.number [] → AreFaultsWithin start disk log (entries past)
     → WritesBack o.first by n (entries past) mid → Flushed by o start disk log past n mid
 flushed by o start disk log past zero mid front good promised calls faults writes =
     let P : List Entry → Type 0 = λ h. Flushed by o start disk log past 0 h in

@@ -17,27 +17,27 @@ use Rattle.desk.specs.Base.{Opened}
 use Rattle.desk.specs.Behind.{IsValueIn}
 use Rattle.desk.specs.State.{State}
 use Rattle.desk.specs.Steps.{row_in}
-use Rattle.desk.specs.Tied.{AreTied, IsTied, OnTold, AreAlone}
-use Rattle.script_run.specs.Work.{IsReady, IsAtRest, HasRange, AreHeld, AreHoused, IsBehindIt, fixes_in, given_at}
+use Rattle.desk.specs.Tied.{AreTied, IsTied, OnTold, TellsAll}
+use Rattle.script_run.specs.Work.{IsWorkerReady, IsUndisturbed, HasRange, AreHeld, AreHoused, IsBehindIt, fixes_of_frame, given_at}
 use mathlib.Core.Logic.{dite}
 use native.Mathlib.Decide.{ℕ_discrete}
 
-same_frame : (x : Held) (f : ℕ) (held : List Held) → f ≡ x.frame → fixes_in f (x ∷ held) ≡ fixes_in f held + 1
-same_frame x f held same = ap (λ (b : Bool). cond b (fixes_in f held + 1) (fixes_in f held)) (eq-eqb x.frame f (sym same))
+same_frame : (x : Held) (f : ℕ) (held : List Held) → f ≡ x.frame → fixes_of_frame f (x ∷ held) ≡ fixes_of_frame f held + 1
+same_frame x f held same = ap (λ (b : Bool). cond b (fixes_of_frame f held + 1) (fixes_of_frame f held)) (eq-eqb x.frame f (sym same))
 
 not_frame : (m n : ℕ) → n ≢ m → nat_eq m n ≡ false
 not_frame m n other = grind (arith, nat_tests, other)
 
-other_frame : (x : Held) (f : ℕ) (held : List Held) → f ≢ x.frame → fixes_in f (x ∷ held) ≡ fixes_in f held
-other_frame x f held other = ap (λ (b : Bool). cond b (fixes_in f held + 1) (fixes_in f held)) (not_frame x.frame f other)
+other_frame : (x : Held) (f : ℕ) (held : List Held) → f ≢ x.frame → fixes_of_frame f (x ∷ held) ≡ fixes_of_frame f held
+other_frame x f held other = ap (λ (b : Bool). cond b (fixes_of_frame f held + 1) (fixes_of_frame f held)) (not_frame x.frame f other)
 
 few_test : (b : Bool) (n m : ℕ) → n ≤ m → cond b (n + 1) n ≤ m + 1
 few_test true n m le = omega (arith, le)
 few_test false n m le = omega (arith, le)
 
-fixes_few : (f : ℕ) (held : List Held) → fixes_in f held ≤ length held
+fixes_few : (f : ℕ) (held : List Held) → fixes_of_frame f held ≤ length held
 fixes_few f [] = omega arith
-fixes_few f (x ∷ held) = let le = few_test (nat_eq x.frame f) (fixes_in f held) (length held) (fixes_few f held) in omega (arith, le)
+fixes_few f (x ∷ held) = let le = few_test (nat_eq x.frame f) (fixes_of_frame f held) (length held) (fixes_few f held) in omega (arith, le)
 
 swapped : (a b : Bool) (n : ℕ) → cond a (cond b (n + 1) n + 1) (cond b (n + 1) n) ≡ cond b (cond a (n + 1) n + 1) (cond a (n + 1) n)
 swapped true true n = refl
@@ -46,9 +46,9 @@ swapped false true n = refl
 swapped false false n = refl
 
 -- the fixes of a frame, in any order
-fixes_mid : (f : ℕ) (xs : List Held) (x : Held) (ys : List Held) → fixes_in f (xs ++ x ∷ ys) ≡ fixes_in f (x ∷ (xs ++ ys))
+fixes_mid : (f : ℕ) (xs : List Held) (x : Held) (ys : List Held) → fixes_of_frame f (xs ++ x ∷ ys) ≡ fixes_of_frame f (x ∷ (xs ++ ys))
 fixes_mid f [] x ys = refl
-fixes_mid f (y ∷ xs) x ys = ap (λ n. cond (nat_eq y.frame f) (n + 1) n) (fixes_mid f xs x ys) ∙ swapped (nat_eq y.frame f) (nat_eq x.frame f) (fixes_in f (xs ++ ys))
+fixes_mid f (y ∷ xs) x ys = ap (λ n. cond (nat_eq y.frame f) (n + 1) n) (fixes_mid f xs x ys) ∙ swapped (nat_eq y.frame f) (nat_eq x.frame f) (fixes_of_frame f (xs ++ ys))
 
 inside_of : (rows : List Row) (i : ℕ) (row : Row) (f : ℕ) → f < length (set rows i row) → f < length rows
 inside_of rows i row f below = subst (λ (n : ℕ). f < n) (length-set rows i row) below
@@ -88,10 +88,10 @@ held_less : (rows : List Row) (xs : List Held) (x : Held) (ys : List Held) → A
 held_less rows xs x ys held = λ f below.
     let row = unheld_row (row_in rows x.frame) in
     let inside = inside_of rows x.frame row f below in
-    let was : (row_in rows f).held ≡ Some (fixes_in f (x ∷ (xs ++ ys))) = held f inside ∙ ap Some (fixes_mid f xs x ys) in
+    let was : (row_in rows f).held ≡ Some (fixes_of_frame f (x ∷ (xs ++ ys))) = held f inside ∙ ap Some (fixes_mid f xs x ys) in
     dite (ℕ_discrete f x.frame)
     (λ same. row_here rows x.frame row f same inside ∙ ap (λ k. option_map (λ n. n - 1) (row_in rows k).held) (sym same)
-    ∙ ap (option_map (λ n. n - 1)) (was ∙ ap Some (same_frame x f (xs ++ ys) same)) ∙ ap Some (less_one (fixes_in f (xs ++ ys))))
+    ∙ ap (option_map (λ n. n - 1)) (was ∙ ap Some (same_frame x f (xs ++ ys) same)) ∙ ap Some (less_one (fixes_of_frame f (xs ++ ys))))
     (λ other. row_else rows x.frame row f other ∙ was ∙ ap Some (other_frame x f (xs ++ ys) other))
 
 -- but for its fixes, each frame is as it was
@@ -177,7 +177,7 @@ pub fewer_mid : (xs : List Held) (x : Held) (ys : List Held) → length (xs ++ y
 fewer_mid [] x ys = omega arith
 fewer_mid (y ∷ xs) x ys = omega (arith, fewer_mid xs x ys)
 
-pub ready_given : {D : Type 0} (seen : D → DiskSeen) (desk : State D) (frames : Plain) (xs : List Held) (x : Held) (ys : List Held) → IsReady seen desk frames (xs ++ x ∷ ys) → IsReady seen desk (given_at frames x.frame) (xs ++ ys)
+pub ready_given : {D : Type 0} (seen : D → DiskSeen) (desk : State D) (frames : Plain) (xs : List Held) (x : Held) (ys : List Held) → IsWorkerReady seen desk frames (xs ++ x ∷ ys) → IsWorkerReady seen desk (given_at frames x.frame) (xs ++ ys)
 ready_given seen desk frames xs x ys ready = record {
   tied = tied_given seen desk frames x.frame ready.tied;
   hands = ready.hands;
@@ -189,7 +189,7 @@ ready_given seen desk frames xs x ys ready = record {
 }
 
 -- the frame of a page is at rest between the calls
-pub at_rest : {D : Type 0} (seen : D → DiskSeen) (desk : State D) (frames : Plain) (fixed : List Held) (f : ℕ) → IsReady seen desk frames fixed → f < desk.config.frames → IsAtRest frames f
+pub at_rest : {D : Type 0} (seen : D → DiskSeen) (desk : State D) (frames : Plain) (fixed : List Held) (f : ℕ) → IsWorkerReady seen desk frames fixed → f < desk.config.frames → IsUndisturbed frames f
 at_rest seen desk frames fixed f ready below =
     let inside : f < length frames.rows = omega (arith, ready.tied.whole, below) in
     record { inside = inside; unvisited = ready.tied.unvisited; unlatched = (ready.tied.rows f inside).unlatched }
@@ -198,24 +198,24 @@ mid_home : (h : List Entry) (xs : List Held) (x : Held) (ys : List Held) → Are
 mid_home h [] x ys was = (x.page, was.0)
 mid_home h (y ∷ xs) x ys was = mid_home h xs x ys was.1
 
-pub rest_mid : {D : Type 0} (seen : D → DiskSeen) (desk : State D) (frames : Plain) (xs : List Held) (x : Held) (ys : List Held) → IsReady seen desk frames (xs ++ x ∷ ys) → IsAtRest frames x.frame
+pub rest_mid : {D : Type 0} (seen : D → DiskSeen) (desk : State D) (frames : Plain) (xs : List Held) (x : Held) (ys : List Held) → IsWorkerReady seen desk frames (xs ++ x ∷ ys) → IsUndisturbed frames x.frame
 rest_mid seen desk frames xs x ys ready =
     let at = mid_home desk.history xs x ys ready.housed in
     at_rest seen desk frames (xs ++ x ∷ ys) x.frame ready (ready.homes at.0 x.frame at.1)
 
 -- a frame of which there is a fix has one
-pub some_held : {D : Type 0} (seen : D → DiskSeen) (desk : State D) (frames : Plain) (xs : List Held) (x : Held) (ys : List Held) → IsReady seen desk frames (xs ++ x ∷ ys) → 0 < held_of (row_in frames.rows x.frame)
+pub some_held : {D : Type 0} (seen : D → DiskSeen) (desk : State D) (frames : Plain) (xs : List Held) (x : Held) (ys : List Held) → IsWorkerReady seen desk frames (xs ++ x ∷ ys) → 0 < held_of (row_in frames.rows x.frame)
 some_held seen desk frames xs x ys ready =
     let rest = rest_mid seen desk frames xs x ys ready in
-    let is : (row_in frames.rows x.frame).held ≡ Some (fixes_in x.frame (xs ++ ys) + 1) =
+    let is : (row_in frames.rows x.frame).held ≡ Some (fixes_of_frame x.frame (xs ++ ys) + 1) =
     ready.held x.frame rest.inside ∙ ap Some (fixes_mid x.frame xs x ys ∙ same_frame x x.frame (xs ++ ys) refl) in
-    let n : held_of (row_in frames.rows x.frame) ≡ fixes_in x.frame (xs ++ ys) + 1 = ap (λ (h : Option ℕ). option_map_or (λ held. held) h 0) is in
+    let n : held_of (row_in frames.rows x.frame) ≡ fixes_of_frame x.frame (xs ++ ys) + 1 = ap (λ (h : Option ℕ). option_map_or (λ held. held) h 0) is in
     omega (arith, n)
 
 -- few fixes leave room in each frame's word
-pub room_left : {D : Type 0} (seen : D → DiskSeen) (desk : State D) (frames : Plain) (fixed : List Held) (f : ℕ) → IsReady seen desk frames fixed → f < length frames.rows → 0 < room_of frames f
+pub room_left : {D : Type 0} (seen : D → DiskSeen) (desk : State D) (frames : Plain) (fixed : List Held) (f : ℕ) → IsWorkerReady seen desk frames fixed → f < length frames.rows → 0 < room_of frames f
 room_left seen desk frames fixed f ready inside =
-    let n : held_of (row_in frames.rows f) ≡ fixes_in f fixed = ap (λ (h : Option ℕ). option_map_or (λ held. held) h 0) (ready.held f inside) in
+    let n : held_of (row_in frames.rows f) ≡ fixes_of_frame f fixed = ap (λ (h : Option ℕ). option_map_or (λ held. held) h 0) (ready.held f inside) in
     omega (arith, n, fixes_few f fixed, ready.few)
 
 none_told : IsSome {T = History} None → ⊥
@@ -227,7 +227,7 @@ image_told (Some None) told = absurd (told refl)
 image_told (Some (Some c)) told = refl
 
 -- each fix is the worker's, and what each image holds is told
-pub all_told : {D : Type 0} (seen : D → DiskSeen) (desk : State D) (frames : Plain) (fixed : List Held) → IsReady seen desk frames fixed → AreAlone (seen_of frames)
+pub all_told : {D : Type 0} (seen : D → DiskSeen) (desk : State D) (frames : Plain) (fixed : List Held) → IsWorkerReady seen desk frames fixed → TellsAll (seen_of frames)
 all_told seen desk frames fixed ready = λ f inside.
     let S : Option ℕ → Type 0 = λ held. IsSome held in
     (subst S (sym (ready.held f inside)) refl, image_told (row_in frames.rows f).image (λ none. none_told (ready.tied.known f inside none).0))
@@ -238,7 +238,7 @@ has_range (Some None) size at len there told sized some header trailer = absurd 
 has_range (Some (Some c)) size at len there told sized some header trailer = record { some = some; header = header; trailer = subst (λ (n : ℕ). at + len ≤ n - 8) (sym sized) trailer }
 
 -- the image of a page's frame is told, and has the range
-pub range_of : {D : Type 0} (seen : D → DiskSeen) (desk : State D) (frames : Plain) (fixed : List Held) (f at len : ℕ) → IsReady seen desk frames fixed → f < desk.config.frames
+pub range_of : {D : Type 0} (seen : D → DiskSeen) (desk : State D) (frames : Plain) (fixed : List Held) (f at len : ℕ) → IsWorkerReady seen desk frames fixed → f < desk.config.frames
     → 0 < len → 38 ≤ at → at + len ≤ page_bytes desk.config.page - 8 → HasRange (row_in frames.rows f).image at len
 range_of seen desk frames fixed f at len ready below some header trailer =
     let inside : f < length frames.rows = omega (arith, ready.tied.whole, below) in

@@ -33,7 +33,7 @@ use Rattle.desk.specs.State.{State}
 use Rattle.desk.specs.Steps.{next_entry}
 use Rattle.desk.specs.Logged.{IsLogged, IsLoggedKind}
 use Rattle.script_run.specs.Openings.{Start, IsKindWithin}
-use Rattle.script_run.specs.Work.{IsCalling, leaves_chunks, Working, SoFar, AreOf, AreFalling, with_answer, with_note, next_receipt}
+use Rattle.script_run.specs.Work.{IsWorkersCall, leaves_chunks, Working, HasPlayed, AreOf, FixesFall, with_answer, with_note, next_receipt}
 use Rattle.script_run.proofs.Fixes.{falling_note}
 use Rattle.script_run.proofs.Values.{faults_up}
 use Rattle.script_run.proofs.Calling.{own_more, calling_answer, calling_receipt, calling_under, marks, numbered_by, next_by, numbered_entries, together_by}
@@ -85,7 +85,7 @@ logged_rest log e h new grown logged = let I : List Entry → Type 0 = λ l. IsL
 
 -- the trail so far, beside the devices as they are after the call
 pub so_far_placed : {D : Type 0} (seen : D → DiskSeen) (o : Opening) (start : Start) (old new : State D) (was is : Seen) (w : Working) (past : List Event)
-    → SoFar seen o start old was w past [] → Moves seen old new was is → IsLogged is old.history → SoFar seen o start (placed old new old.history) is w past []
+    → HasPlayed seen o start old was w past [] → Moves seen old new was is → IsLogged is old.history → HasPlayed seen o start (placed old new old.history) is w past []
 so_far_placed seen o start old new was is w past so moves logged = record {
   good = so.good;
   promised = so.promised;
@@ -110,10 +110,10 @@ so_far_placed seen o start old new was is w past so moves logged = record {
 
 -- and at the end of the call
 pub so_far_after : {D : Type 0} (seen : D → DiskSeen) (o : Opening) (start : Start) (old new : State D) (log : Seen) (w : Working) (past : List Event) (pending : List Entry) (h : List Entry)
-    → Left seen old new → new.history ≡ h → SoFar seen o start (placed old new h) log w past pending → SoFar seen o start new log w past pending
+    → Left seen old new → new.history ≡ h → HasPlayed seen o start (placed old new h) log w past pending → HasPlayed seen o start new log w past pending
 so_far_after {D} seen o start old new log w past pending h left grown so =
     let make : Config → ℕ → List Entry → State D = λ c i l. record { config = c; instance = i; history = l; disk = new.disk } in
-    let S : State D → Type 0 = λ desk. SoFar seen o start desk log w past pending in
+    let S : State D → Type 0 = λ desk. HasPlayed seen o start desk log w past pending in
     subst (λ c. S (make c new.instance new.history)) (sym left.config)
     (subst (λ i. S (make old.config i new.history)) (sym left.instance) (subst (λ l. S (make old.config old.instance l)) (sym grown) so))
 
@@ -132,7 +132,7 @@ abbrev pub grown : {D : Type 0} → State D → Working → Kind → State D
 grown desk w k = record desk { history = next_entry desk (me w) k ∷ desk.history }
 
 exact_kind : {D : Type 0} (seen : D → DiskSeen) (o : Opening) (start : Start) (desk : State D) (log : Seen) (w : Working) (past : List Event) (pending : List Entry) (k : Kind)
-    → SoFar seen o start desk log w past pending → IsTrueKind desk.history w.fixed k
+    → HasPlayed seen o start desk log w past pending → IsTrueKind desk.history w.fixed k
     → IsTrueEvent (Some w.pass) past (event.Entry (next_entry desk (me w) k))
 exact_kind seen o start desk log w past pending k so exact =
     let X : List Entry → List Held → Type 0 = λ h held. IsTrueKind h held k in
@@ -143,12 +143,12 @@ held_more w e past is number held = ap open_fixes (own_more w.pass (event.Entry 
 
 -- an entry that is the answer of the worker's call
 pub so_far_answer : {D : Type 0} (seen : D → DiskSeen) (o : Opening) (start : Start) (desk : State D) (log : Seen) (w : Working) (past : List Event) (pending : List Entry) (k : Kind)
-    → SoFar seen o start desk log w past pending → Adds seen o start desk log w past k → kind_answers k ≡ true → AreFalling (w.next + 1) (held_after_kind w.next k w.fixed)
+    → HasPlayed seen o start desk log w past pending → Adds seen o start desk log w past k → kind_answers k ≡ true → FixesFall (w.next + 1) (held_after_kind w.next k w.fixed)
     → leaves_chunks k ≡ true → (book desk.config (next_entry desk (me w) k ∷ desk.history)).hands ≡ []
-    → SoFar seen o start (grown desk w k) log (with_answer w k) (event.Entry (next_entry desk (me w) k) ∷ past) []
+    → HasPlayed seen o start (grown desk w k) log (with_answer w k) (event.Entry (next_entry desk (me w) k) ∷ past) []
 so_far_answer seen o start desk log w past pending k so adds answers falls keeps handless =
     let e : Entry = next_entry desk (me w) k in
-    let C : List Event → Type 0 = λ mine. IsCalling mine (w.next + 1) [] in
+    let C : List Event → Type 0 = λ mine. IsWorkersCall mine (w.next + 1) [] in
     record {
       good = (with_true o None (Some w.pass) past (event.Entry e) adds.lawful (exact_kind seen o start desk log w past pending k so adds.exact), so.good);
       promised = (adds.promised, so.promised);
@@ -173,11 +173,11 @@ so_far_answer seen o start desk log w past pending k so adds answers falls keeps
 
 -- an entry before the answer
 pub so_far_under : {D : Type 0} (seen : D → DiskSeen) (o : Opening) (start : Start) (desk : State D) (log : Seen) (w : Working) (past : List Event) (pending : List Entry) (k : Kind)
-    → SoFar seen o start desk log w past pending → Adds seen o start desk log w past k → kind_answers k ≡ false → held_after_kind w.next k w.fixed ≡ w.fixed → leaves_chunks k ≡ true
-    → SoFar seen o start (grown desk w k) log w (event.Entry (next_entry desk (me w) k) ∷ past) (next_entry desk (me w) k ∷ pending)
+    → HasPlayed seen o start desk log w past pending → Adds seen o start desk log w past k → kind_answers k ≡ false → held_after_kind w.next k w.fixed ≡ w.fixed → leaves_chunks k ≡ true
+    → HasPlayed seen o start (grown desk w k) log w (event.Entry (next_entry desk (me w) k) ∷ past) (next_entry desk (me w) k ∷ pending)
 so_far_under seen o start desk log w past pending k so adds silent kept keeps =
     let e : Entry = next_entry desk (me w) k in
-    let C : List Event → Type 0 = λ mine. IsCalling mine w.next (e ∷ pending) in
+    let C : List Event → Type 0 = λ mine. IsWorkersCall mine w.next (e ∷ pending) in
     record {
       good = (with_true o None (Some w.pass) past (event.Entry e) adds.lawful (exact_kind seen o start desk log w past pending k so adds.exact), so.good);
       promised = (adds.promised, so.promised);
@@ -205,12 +205,12 @@ so_far_under seen o start desk log w past pending k so adds silent kept keeps =
 
 -- a receipt; the worker's receipts tell no words
 pub so_far_receipt : {D : Type 0} (seen : D → DiskSeen) (o : Opening) (start : Start) (desk : State D) (log : Seen) (w : Working) (past : List Event) (n : Note)
-    → SoFar seen o start desk log w past [] → IsLawful o None past (event.Receipt (next_receipt desk w n)) → IsPromised o start.pages (entries past) (own w.pass past) (event.Receipt (next_receipt desk w n))
+    → HasPlayed seen o start desk log w past [] → IsLawful o None past (event.Receipt (next_receipt desk w n)) → IsPromised o start.pages (entries past) (own w.pass past) (event.Receipt (next_receipt desk w n))
     → IsTrueNote (entries past) (held_by past w.pass) n
-    → SoFar seen o start desk log (with_note desk w n) (event.Receipt (next_receipt desk w n) ∷ past) []
+    → HasPlayed seen o start desk log (with_note desk w n) (event.Receipt (next_receipt desk w n) ∷ past) []
 so_far_receipt {D} seen o start desk log w past n so lawful promised exact =
     let r = next_receipt desk w n in
-    let C : List Event → Type 0 = λ mine. IsCalling mine (w.next + 1) [] in
+    let C : List Event → Type 0 = λ mine. IsWorkersCall mine (w.next + 1) [] in
     let mine = own_more w.pass (event.Receipt r) past refl in
     record {
       good = (with_true o None (Some w.pass) past (event.Receipt r) lawful exact, so.good);
@@ -236,7 +236,7 @@ so_far_receipt {D} seen o start desk log w past n so lawful promised exact =
 
 -- A lawful entry of the worker's call, which began at the history `base`.
 pub lawful_entry : {D : Type 0} (seen : D → DiskSeen) (o : Opening) (start : Start) (desk : State D) (log : Seen) (w : Working) (past : List Event) (pending base : List Entry) (k : Kind)
-    → SoFar seen o start desk log w past pending → desk.history ≡ pending ++ base → MayPrecede desk.history pending k → IsLegalKind o (entries past) (own w.pass past) w.pass w.next k
+    → HasPlayed seen o start desk log w past pending → desk.history ≡ pending ++ base → MayPrecede desk.history pending k → IsLegalKind o (entries past) (own w.pass past) w.pass w.next k
     → IfSome (departure_in k) (λ d. IsUnfixed past d.page) → IfSome (write_in k) (λ v. IsCoveredWrite (entries past) v.page v.lsn v.upto)
     → IsCausedKind o past (entries past) (own w.pass past) w.pass w.next k → IsVictimKind o.config (entries past) w.pass w.next k → IsWithdrawalKind o.config (entries past) w.pass w.next k
     → IsLawful o None past (event.Entry (next_entry desk (me w) k))
@@ -273,7 +273,7 @@ in_order_of place (event.Receipt r ∷ past) c n note of less = inr (of.0, last_
 
 -- a lawful receipt of the worker's call; the worker is the only caller, so its receipts rise
 pub lawful_receipt : {D : Type 0} (seen : D → DiskSeen) (o : Opening) (start : Start) (desk : State D) (log : Seen) (w : Working) (past : List Event) (n : Note)
-    → SoFar seen o start desk log w past [] → MayPrecedeNote (entries past) [] n → IsLegalNote o (entries past) (own w.pass past) n → IsCausedNote o past (entries past) (own w.pass past) w.pass w.next n
+    → HasPlayed seen o start desk log w past [] → MayPrecedeNote (entries past) [] n → IsLegalNote o (entries past) (own w.pass past) n → IsCausedNote o past (entries past) (own w.pass past) w.pass w.next n
     → IsLawful o None past (event.Receipt (next_receipt desk w n))
 lawful_receipt seen o start desk log w past n so before legal causes = record {
   legal = record {
@@ -293,7 +293,7 @@ lawful_receipt seen o start desk log w past n so before legal causes = record {
 
 -- the places behind the mark, counted by entries
 pub room_of : {D : Type 0} (seen : D → DiskSeen) (o : Opening) (start : Start) (desk : State D) (log : Seen) (w : Working) (past : List Event) (pending : List Entry) (need : ℕ)
-    → SoFar seen o start desk log w past pending → desk.config.first + length desk.history + need ≤ LIMIT → mark desk.config.first desk.history + need ≤ LIMIT
+    → HasPlayed seen o start desk log w past pending → desk.config.first + length desk.history + need ≤ LIMIT → mark desk.config.first desk.history + need ≤ LIMIT
 room_of seen o start desk log w past pending need so room =
     let N : ℕ → List Entry → Type 0 = λ n h. AreNumbered n h in
     let numbered : AreNumbered desk.config.first desk.history = subst (λ n. N n desk.history) (sym so.first_is) (subst (λ h. N o.first h) so.entries_are (numbered_entries _ o past so.good)) in

@@ -13,11 +13,11 @@ use Rattle.page_ids.specs.declared.ids.PageId.{PageId}
 use Rattle.trail.specs.declared.event.Event.{Event}
 use Rattle.trail.specs.Withdrawal.{AreFollowed, IsFollowed}
 use Rattle.script_run.specs.Work.{AreSteady, leaves_chunks}
-use Rattle.trail.specs.Book.{Area, Book, book, book_after, give, give_next, is_inside, is_late, is_owner, next_frame, use_frame}
+use Rattle.trail.specs.Book.{Area, Book, book, book_after, give, give_next, is_in_area, is_late, is_owner, next_frame, use_frame}
 use Rattle.trail.proofs.Judging.{HasTurn, given_up}
 
 give_area : (per f : ℕ) (b : Book) → (give per f b).area ≡ b.area
-give_area per f b = cases (is_inside per b f)
+give_area per f b = cases (is_in_area per b f)
   where
     cases : (t : Bool) → (let used = use_frame f b in let after : Book = cond t (record used { withdrawn = b.withdrawn ++ f ∷ [] }) (record used { free = used.free ++ f ∷ [] }) in after.area) ≡ b.area
     cases true = refl

@@ -31,7 +31,7 @@ use Rattle.desk.specs.Steps.{row_in}
 use Rattle.desk.specs.Logged.{IsLogged}
 use Rattle.desk.specs.Victims.{IsCleanedFirst, IsWrittenBack, IsEvicted, IsHad}
 use Rattle.script_run.specs.Openings.{Start}
-use Rattle.script_run.specs.Work.{Working, SoFar, IsReady, AreOf, fixes_in}
+use Rattle.script_run.specs.Work.{Working, HasPlayed, IsWorkerReady, AreOf, fixes_of_frame}
 use Rattle.script_run.proofs.Fixes.{same_self, one_page, number_is}
 use Rattle.script_run.proofs.Handing.{evict_hand, none_withdrawn}
 use Rattle.script_run.proofs.Calling.{most_parts, next_by, other_number, own_more}
@@ -43,7 +43,7 @@ pub record Readied {D : Type 0} (seen : D → DiskSeen) (o : Opening) (start : S
   pub made : List Entry
   pub more : List Event
   pub quiet : filter is_answer more ≡ []
-  pub so_far : SoFar seen o start (placed old new h) log w (more ++ past) made
+  pub so_far : HasPlayed seen o start (placed old new h) log w (more ++ past) made
   pub began : h ≡ made ++ old.history
   pub got : GotFrame p (kinds made)
   -- no frame is in another call's hand
@@ -53,7 +53,7 @@ pub record Readied {D : Type 0} (seen : D → DiskSeen) (o : Opening) (start : S
 
 -- a frame was free, or none is needed
 abbrev pub readied_none : {D : Type 0} (seen : D → DiskSeen) (o : Opening) (start : Start) (old new : State D) (log : Seen) (w : Working) (past : List Event) (p : PageId)
-    → SoFar seen o start (placed old new old.history) log w past [] → Readied seen o start old new log w past p old.history
+    → HasPlayed seen o start (placed old new old.history) log w past [] → Readied seen o start old new log w past p old.history
 readied_none seen o start old new log w past p so = record {
   made = [];
   more = [];
@@ -109,7 +109,7 @@ record Swept {D : Type 0} (seen : D → DiskSeen) (o : Opening) (start : Start) 
   made : List Entry
   more : List Event
   quiet : filter is_answer more ≡ []
-  so_far : SoFar seen o start (placed old new mid) log w (more ++ past) made
+  so_far : HasPlayed seen o start (placed old new mid) log w (more ++ past) made
   began : mid ≡ made ++ old.history
   form : (kinds made ≡ []) ⊎ ((lsn : ℕ) × (upto : ℕ) × (kinds made ≡ kind.Write q lsn upto ∷ []))
   clean : is_dirty mid q ≡ false
@@ -121,7 +121,7 @@ record Swept {D : Type 0} (seen : D → DiskSeen) (o : Opening) (start : Start) 
   values : (size : ℕ) (base : PageId → Option Content) (p : PageId) → value size base mid p ≡ value size base old.history p
 
 swept_clean : {D : Type 0} (seen : D → DiskSeen) (o : Opening) (start : Start) (old new : State D) (log : Seen) (w : Working) (past : List Event) (q : PageId)
-    → SoFar seen o start (placed old new old.history) log w past [] → is_dirty old.history q ≡ false → Swept seen o start old new log w past q old.history
+    → HasPlayed seen o start (placed old new old.history) log w past [] → is_dirty old.history q ≡ false → Swept seen o start old new log w past q old.history
 swept_clean seen o start old new log w past q so clean =
     let B : List Entry → Type 0 = λ h. before_write w.pass w.next q h ≡ h in
     record {
@@ -147,7 +147,7 @@ own_write true false c h g x y z = absurd (cc)
 own_write false b c h g x y z = absurd (cc)
 
 swept_written : {D : Type 0} (seen : D → DiskSeen) (o : Opening) (start : Start) (old new : State D) (log : Seen) (w : Working) (past : List Event) (q : PageId) (mid : List Entry)
-    → SoFar seen o start (placed old new old.history) log w past [] → IsLogged log mid → IsWrittenBack old.config.first (me w) q old.history mid → Swept seen o start old new log w past q mid
+    → HasPlayed seen o start (placed old new old.history) log w past [] → IsLogged log mid → IsWrittenBack old.config.first (me w) q old.history mid → Swept seen o start old new log w past q mid
 swept_written seen o start old new log w past q mid so logged back =
     let k = kind.Write q back.dirt.newest back.upto in
     let at = placed old new old.history in
@@ -177,7 +177,7 @@ swept_written seen o start old new log w past q mid so logged back =
     subst S (sym back.entry) there
 
 swept : {D : Type 0} (seen : D → DiskSeen) (o : Opening) (start : Start) (old new : State D) (log : Seen) (w : Working) (past : List Event) (q : PageId) (mid : List Entry)
-    → SoFar seen o start (placed old new old.history) log w past [] → IsLogged log mid → IsCleanedFirst old.config.first (me w) q old.history mid → Swept seen o start old new log w past q mid
+    → HasPlayed seen o start (placed old new old.history) log w past [] → IsLogged log mid → IsCleanedFirst old.config.first (me w) q old.history mid → Swept seen o start old new log w past q mid
 swept seen o start old new log w past q mid so logged (inl (clean, same)) =
     let S : List Entry → Type 0 = λ h. Swept seen o start old new log w past q h in
     subst S (sym same) (swept_clean seen o start old new log w past q so clean)
@@ -196,12 +196,12 @@ no_fixes None n is none = absurd (cc)
 no_fixes (Some k) n is none = let same : k ≡ n = cc in sym same ∙ none
 
 -- the victim's frame has no fix, so the worker does not hold the page
-pub victim_free : {D : Type 0} {cleared : List Row} (seen : D → DiskSeen) (old had : State D) (frames : Plain) (w : Working) (f : ℕ) → IsReady seen old frames w.fixed
+pub victim_free : {D : Type 0} {cleared : List Row} (seen : D → DiskSeen) (old had : State D) (frames : Plain) (w : Working) (f : ℕ) → IsWorkerReady seen old frames w.fixed
     → (evicted : IsEvicted old had frames.rows cleared (me w) f) → newest_fix w.fixed evicted.page ≡ None
 victim_free seen old had frames w f ready evicted =
     let below = ready.homes evicted.page f evicted.housed in
     let inside : f < length frames.rows = omega (arith, ready.tied.whole, below) in
-    none_newest old.history w.fixed evicted.page f ready.housed evicted.housed (no_fixes (row_in frames.rows f).held (fixes_in f w.fixed) (ready.held f inside) evicted.unfixed)
+    none_newest old.history w.fixed evicted.page f ready.housed evicted.housed (no_fixes (row_in frames.rows f).held (fixes_of_frame f w.fixed) (ready.held f inside) evicted.unfixed)
 
 -- the law of the victim, over the trail so far
 sought_here : (c d : Config) (caller number : ℕ) (p : PageId) (passed : List (ℕ × Word)) (h mid there : List Entry) → IsSought c h p passed → d ≡ c → there ≡ mid → before_write caller number p mid ≡ h
@@ -213,7 +213,7 @@ sought_here c d caller number p passed h mid there sought config at before =
 
 -- a page left its frame
 readied_evicted : {D : Type 0} {cleared : List Row} (seen : D → DiskSeen) (o : Opening) (start : Start) (old new had : State D) (frames : Plain) (log : Seen) (w : Working) (past : List Event) (p : PageId) (f : ℕ)
-    → SoFar seen o start (placed old new old.history) log w past [] → IsReady seen old frames w.fixed → IsLogged log had.history → home old.history p ≡ None
+    → HasPlayed seen o start (placed old new old.history) log w past [] → IsWorkerReady seen old frames w.fixed → IsLogged log had.history → home old.history p ≡ None
     → IsEvicted old had frames.rows cleared (me w) f → Readied seen o start old new log w past p had.history
 readied_evicted seen o start old new had frames log w past p f so ready logged absent evicted =
     let q = evicted.page in
@@ -256,7 +256,7 @@ readied_evicted seen o start old new had frames log w past p f so ready logged a
     subst R (sym evicted.history) there
 
 pub readied : {D : Type 0} {cleared : List Row} (seen : D → DiskSeen) (o : Opening) (start : Start) (old new had : State D) (frames : Plain) (log : Seen) (w : Working) (past : List Event) (p : PageId) (f : ℕ)
-    → SoFar seen o start (placed old new old.history) log w past [] → IsReady seen old frames w.fixed → IsLogged log had.history → home old.history p ≡ None
+    → HasPlayed seen o start (placed old new old.history) log w past [] → IsWorkerReady seen old frames w.fixed → IsLogged log had.history → home old.history p ≡ None
     → IsHad old had frames.rows cleared (me w) f → Readied seen o start old new log w past p had.history
 readied seen o start old new had frames log w past p f so ready logged absent (inl free) =
     let R : List Entry → Type 0 = λ h. Readied seen o start old new log w past p h in

@@ -30,17 +30,17 @@ use Rattle.page_ids.specs.declared.limits.TheConstants.{CREATE_NEED, LIMIT}
 use Rattle.frame_words.specs.Plain.{Plain}
 use Rattle.frame_words.specs.Rows.{Row}
 use Rattle.desk.specs.State.{State}
-use Rattle.desk.specs.Steps.{IsAppended, IsOutside}
+use Rattle.desk.specs.Steps.{IsAppended, IsPastEnd}
 use Rattle.desk.specs.Ledger.{entry_behind}
 use Rattle.desk.specs.Logged.{IsLogged, IsLoggedKind}
 use Rattle.desk.specs.Victims.{IsHad, IsCleanedFirst}
 use Rattle.desk.specs.Fixing.{IsHeldFull, IsUnseated, IsUnwritten}
-use Rattle.desk.specs.Creating.{IsCreatedBy, IsAtHome, IsUncreated}
+use Rattle.desk.specs.Creating.{IsCreatedBy, IsFoundAtHome, IsUncreated}
 use Rattle.desk.specs.declared.calls.Caller.{Caller}
 use Rattle.desk.specs.declared.calls.Granted.{Granted}
 use Rattle.script_text.specs.declared.script.Command.TheVariants as command
 use Rattle.script_run.specs.Openings.{Start, IsCauseWithin}
-use Rattle.script_run.specs.Work.{Working, SoFar, IsReady, Does, with_answer}
+use Rattle.script_run.specs.Work.{Working, HasPlayed, IsWorkerReady, Does, with_answer}
 use Rattle.script_run.proofs.Growing.{me, Left, Moves, placed, logged_rest, so_far_placed, so_far_after, so_far_answer, lawful_entry}
 use Rattle.script_run.proofs.Exact.{exact_words}
 use Rattle.script_run.proofs.Telling.{told_below}
@@ -56,7 +56,7 @@ free_create o past c n p now fixed h are few at absent =
 
 -- a create got as far as its own causes
 create_reached : {D : Type 0} (seen : D → DiskSeen) (o : Opening) (start : Start) (desk : State D) (log : Seen) (w : Working) (past : List Event) (pending base : List Entry) (p : PageId) (now : ℕ)
-    → SoFar seen o start desk log w past pending → desk.history ≡ pending ++ base → mark desk.config.first base + CREATE_NEED ≤ LIMIT → p.page < start.pages p.space
+    → HasPlayed seen o start desk log w past pending → desk.history ≡ pending ++ base → mark desk.config.first base + CREATE_NEED ≤ LIMIT → p.page < start.pages p.space
     → IsReached o past (entries past) (made w.next (own w.pass past)) w.pass w.next (call.Create p now)
 create_reached seen o start desk log w past pending base p now so stands room inside = reached seen o start desk log w past pending base (call.Create p now) CREATE_NEED so stands refl room inside
 
@@ -93,7 +93,7 @@ had_absent old had p by f absent (inr evicted) = ap (λ h. home h p) evicted.his
 
 -- the page was made in a frame that was had
 pub does_made : {D : Type 0} {more : List Row} (seen : D → DiskSeen) (o : Opening) (start : Start) (old new : State D) (frames : Plain) (was is : Seen) (w : Working) (past : List Event) (p : PageId) (now : ℕ) (g : Granted)
-    → SoFar seen o start old was w past [] → Moves seen old new was is → IsReady seen old frames w.fixed → (by : IsCreatedBy old new frames.rows more (me w) p now was.end is.end g)
+    → HasPlayed seen o start old was w past [] → Moves seen old new was is → IsWorkerReady seen old frames w.fixed → (by : IsCreatedBy old new frames.rows more (me w) p now was.end is.end g)
     → p.page < pages_in (seen old.disk).spaces p.space → length w.fixed < 64 → log_end old.history ≤ was.end → mark old.config.first old.history + CREATE_NEED ≤ LIMIT
     → Does seen o start new is (with_answer w (kind.Create p g.frame by.start (by.start + 21) now)) past (command.Create p now)
 does_made seen o start old new frames was is w past p now g so moves ready by inside few known room =
@@ -151,7 +151,7 @@ unmade_behind seen o start old new log w past p now why h r left came logged wit
 
 -- and one whose refusal comes alone
 unmade_alone : {D : Type 0} (seen : D → DiskSeen) (o : Opening) (start : Start) (old new : State D) (was is : Seen) (w : Working) (past : List Event) (p : PageId) (now : ℕ) (why : Cause)
-    → (so : SoFar seen o start old was w past []) → Moves seen old new was is → IsAppended old new (me w) (kind.Refused (call.Create p now) why)
+    → (so : HasPlayed seen o start old was w past []) → Moves seen old new was is → IsAppended old new (me w) (kind.Refused (call.Create p now) why)
     → IsLoggedKind is (kind.Refused (call.Create p now) why) → IsCauseWithin start (seen new.disk).faults is.faults why
     → unwrap_or (disk_fault why) (disk_faults old.history) ≤ (seen new.disk).faults → unwrap_or (log_fault why) (log_faults old.history) ≤ is.faults
     → MayPrecedeRefusal old.history [] (call.Create p now) why → IsRefused o past (entries past) (own w.pass past) w.pass w.next (call.Create p now) why → IsTrueRefusal old.history w.fixed (call.Create p now) why
@@ -162,7 +162,7 @@ unmade_alone seen o start old new was is w past p now why so moves entry logged 
     (record { own = own_is; filed = entered; excused = tt; rising = rising; begun = tt }) (λ l. inr (why, refl))
 
 pub create_outside : {D : Type 0} (seen : D → DiskSeen) (o : Opening) (start : Start) (old new : State D) (was is : Seen) (w : Working) (past : List Event) (p : PageId) (now pages : ℕ)
-    → SoFar seen o start old was w past [] → Moves seen old new was is → IsOutside seen old new (me w) p (call.Create p now) pages → mark old.config.first old.history + CREATE_NEED ≤ LIMIT
+    → HasPlayed seen o start old was w past [] → Moves seen old new was is → IsPastEnd seen old new (me w) p (call.Create p now) pages → mark old.config.first old.history + CREATE_NEED ≤ LIMIT
     → Does seen o start new is (with_answer w (kind.Refused (call.Create p now) (cause.NoSuchPage pages))) past (command.Create p now)
 create_outside seen o start old new was is w past p now pages so moves out room =
     let why = cause.NoSuchPage pages in
@@ -175,7 +175,7 @@ create_outside seen o start old new was is w past p now pages so moves out room 
     ) (wordless old.history w.fixed (call.Create p now) why refl refl refl) (record { inside = tt; told = count }) refl refl tt
 
 pub create_full : {D : Type 0} (seen : D → DiskSeen) (o : Opening) (start : Start) (old new : State D) (was is : Seen) (w : Working) (past : List Event) (p : PageId) (now held full : ℕ)
-    → SoFar seen o start old was w past [] → Moves seen old new was is → p.page < pages_in (seen old.disk).spaces p.space → held ≡ length w.fixed → length w.fixed ≤ 64
+    → HasPlayed seen o start old was w past [] → Moves seen old new was is → p.page < pages_in (seen old.disk).spaces p.space → held ≡ length w.fixed → length w.fixed ≤ 64
     → IsHeldFull old new (me w) (call.Create p now) held full → mark old.config.first old.history + CREATE_NEED ≤ LIMIT
     → Does seen o start new is (with_answer w (kind.Refused (call.Create p now) (cause.HoldFull full))) past (command.Create p now)
 create_full seen o start old new was is w past p now held full so moves inside count few out room =
@@ -190,7 +190,7 @@ create_full seen o start old new was is w past p now held full so moves inside c
     ) (wordless old.history w.fixed (call.Create p now) why refl refl refl) (record { inside = here; told = tt }) refl refl tt
 
 pub create_resident : {D : Type 0} (seen : D → DiskSeen) (o : Opening) (start : Start) (old new : State D) (was is : Seen) (w : Working) (past : List Event) (p : PageId) (now f : ℕ)
-    → SoFar seen o start old was w past [] → Moves seen old new was is → p.page < pages_in (seen old.disk).spaces p.space → length w.fixed < 64 → IsAtHome old new (me w) p now f → mark old.config.first old.history + CREATE_NEED ≤ LIMIT
+    → HasPlayed seen o start old was w past [] → Moves seen old new was is → p.page < pages_in (seen old.disk).spaces p.space → length w.fixed < 64 → IsFoundAtHome old new (me w) p now f → mark old.config.first old.history + CREATE_NEED ≤ LIMIT
     → Does seen o start new is (with_answer w (kind.Refused (call.Create p now) (cause.Resident f))) past (command.Create p now)
 create_resident seen o start old new was is w past p now f so moves inside few out room =
     let why = cause.Resident f in
@@ -202,7 +202,7 @@ create_resident seen o start old new was is w past p now f so moves inside few o
     ) (wordless old.history w.fixed (call.Create p now) why refl refl refl) (record { inside = here; told = tt }) refl refl tt
 
 pub create_unseated : {D : Type 0} (seen : D → DiskSeen) (o : Opening) (start : Start) (old new : State D) (frames : Plain) (was is : Seen) (w : Working) (past : List Event) (p : PageId) (now : ℕ) (words : List (ℕ × Word))
-    → SoFar seen o start old was w past [] → Moves seen old new was is → IsReady seen old frames w.fixed → p.page < pages_in (seen old.disk).spaces p.space → length w.fixed < 64
+    → HasPlayed seen o start old was w past [] → Moves seen old new was is → IsWorkerReady seen old frames w.fixed → p.page < pages_in (seen old.disk).spaces p.space → length w.fixed < 64
     → IsUnseated old new frames.rows (me w) p (call.Create p now) words → mark old.config.first old.history + CREATE_NEED ≤ LIMIT
     → Does seen o start new is (with_answer w (kind.Refused (call.Create p now) (cause.AllFixed words))) past (command.Create p now)
 create_unseated seen o start old new frames was is w past p now words so moves ready inside few out room =
@@ -215,7 +215,7 @@ create_unseated seen o start old new frames was is w past p now words so moves r
     (record { words = exact_words seen old frames w.fixed old.history words (λ q. refl) (λ f. refl) ready out.full.found; tag = tt; free = refl }) (record { inside = here; told = tt }) refl refl out.full.rising
 
 pub create_uncovered : {D : Type 0} (seen : D → DiskSeen) (o : Opening) (start : Start) (old new : State D) (was is : Seen) (w : Working) (past : List Event) (p : PageId) (now before after : ℕ)
-    → SoFar seen o start old was w past [] → Moves seen old new was is → p.page < pages_in (seen old.disk).spaces p.space → length w.fixed < 64
+    → HasPlayed seen o start old was w past [] → Moves seen old new was is → p.page < pages_in (seen old.disk).spaces p.space → length w.fixed < 64
     → IsUnwritten old new (me w) p (call.Create p now) was.faults is.faults before after (cause.RedoFault before after) → mark old.config.first old.history + CREATE_NEED ≤ LIMIT
     → Does seen o start new is (with_answer w (kind.Refused (call.Create p now) (cause.RedoFault before after))) past (command.Create p now)
 create_uncovered seen o start old new was is w past p now before after so moves inside few out room =
@@ -229,7 +229,7 @@ create_uncovered seen o start old new was is w past p now before after so moves 
     ) (wordless old.history w.fixed (call.Create p now) (cause.RedoFault before after) refl refl refl) (record { inside = here; told = tt }) refl refl tt
 
 pub create_unwritten : {D : Type 0} (seen : D → DiskSeen) (o : Opening) (start : Start) (old new : State D) (was is : Seen) (w : Working) (past : List Event) (p : PageId) (now before after : ℕ)
-    → SoFar seen o start old was w past [] → Moves seen old new was is → p.page < pages_in (seen old.disk).spaces p.space → length w.fixed < 64
+    → HasPlayed seen o start old was w past [] → Moves seen old new was is → p.page < pages_in (seen old.disk).spaces p.space → length w.fixed < 64
     → IsUnwritten old new (me w) p (call.Create p now) (seen old.disk).faults (seen new.disk).faults before after (cause.DiskFault before after) → mark old.config.first old.history + CREATE_NEED ≤ LIMIT
     → Does seen o start new is (with_answer w (kind.Refused (call.Create p now) (cause.DiskFault before after))) past (command.Create p now)
 create_unwritten seen o start old new was is w past p now before after so moves inside few out room =
@@ -244,7 +244,7 @@ create_unwritten seen o start old new was is w past p now before after so moves 
 
 -- a frame was had, and the log has no LSN left for the record
 pub create_spent : {D : Type 0} {cleared : List Row} (seen : D → DiskSeen) (o : Opening) (start : Start) (old new : State D) (frames : Plain) (was is : Seen) (w : Working) (past : List Event) (p : PageId) (now end : ℕ)
-    → SoFar seen o start old was w past [] → Moves seen old new was is → IsReady seen old frames w.fixed → p.page < pages_in (seen old.disk).spaces p.space → length w.fixed < 64
+    → HasPlayed seen o start old was w past [] → Moves seen old new was is → IsWorkerReady seen old frames w.fixed → p.page < pages_in (seen old.disk).spaces p.space → length w.fixed < 64
     → IsUncreated old new frames.rows cleared (me w) p now was.end is.end end → log_end old.history ≤ was.end → mark old.config.first old.history + CREATE_NEED ≤ LIMIT
     → Does seen o start new is (with_answer w (kind.Refused (call.Create p now) (cause.LogSpent end))) past (command.Create p now)
 create_spent seen o start old new frames was is w past p now end so moves ready inside few out known room =

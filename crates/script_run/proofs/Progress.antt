@@ -20,10 +20,10 @@ use Rattle.trail.specs.Kinds.{kind_answers}
 use Rattle.desk.specs.State.{State}
 use Rattle.script_text.specs.declared.script.Command.{Command}
 use Rattle.script_text.specs.declared.script.Command.TheVariants as command
-use Rattle.script_run.specs.Todo.{is_one_call, Answers, Makes, GoesOn, Todo, GivesBack, IsReceiptOf, IsEntryOf, IsRefusal}
+use Rattle.script_run.specs.Todo.{is_one_call, Answers, Makes, HistoryGoesOn, Todo, GivesBack, IsReceiptOf, IsEntryOf, IsRefusal}
 use Rattle.redo_mark.specs.Logs.{Seen}
 use Rattle.script_run.specs.Openings.{Start}
-use Rattle.script_run.specs.Work.{Working, SoFar, Does, Progress, Ending, Worked, with_note}
+use Rattle.script_run.specs.Work.{Working, HasPlayed, Does, Progress, Ending, Worked, with_note}
 use Rattle.script_run.specs.Several.{Done}
 use Rattle.script_run.proofs.Fixes.{same_self}
 use Rattle.script_run.proofs.Doing.{does_unfix}
@@ -70,16 +70,16 @@ makes_one h k (command.Clean bound) past e one a = (e, refl, a)
 makes_one h k command.Checkpoint past e one a = (e, refl, a)
 
 -- a history that goes on from some events goes on from those before them
-goes_back : (e : Event) (past : List Event) (h : List Entry) → GoesOn (e ∷ past) h → GoesOn past h
+goes_back : (e : Event) (past : List Event) (h : List Entry) → HistoryGoesOn (e ∷ past) h → HistoryGoesOn past h
 goes_back (event.Entry e) past h (later, is) = (later ++ e ∷ [], is ∙ sym (append_assoc later (e ∷ []) (entries past)))
 goes_back (event.Receipt r) past h goes = goes
 
-pub goes_back_all : (more past : List Event) (h : List Entry) → GoesOn (more ++ past) h → GoesOn past h
+pub goes_back_all : (more past : List Event) (h : List Entry) → HistoryGoesOn (more ++ past) h → HistoryGoesOn past h
 goes_back_all [] past h goes = goes
 goes_back_all (e ∷ more) past h goes = goes_back_all more past h (goes_back e (more ++ past) h goes)
 
 -- the history of some events goes on from them
-pub goes_here : (past : List Event) → GoesOn past (entries past)
+pub goes_here : (past : List Event) → HistoryGoesOn past (entries past)
 goes_here past = ([], refl)
 
 quiet_kind : (n : ℕ) (k : Kind) (held : List Held) → kind_answers k ≡ false → held_after_kind n k held ≡ held
@@ -211,12 +211,12 @@ pub progress_more : {D : Type 0} (seen : D → DiskSeen) (o : Opening) (start : 
 progress_more seen o start desk new was is w v past commands c rest pass so does =
     let H : ℕ → Type 0 = λ k. held_by (so.more ++ past) k ≡ held_by (so.done ++ past) k in
     let held : held_by (so.more ++ past) v.pass ≡ held_by (so.done ++ past) v.pass = subst H (sym pass) so.held in
-    let L : ℕ → Type 0 = λ k. (h : List Entry) (tail : List Event) → GoesOn (so.more ++ past) h → Todo h k (c ∷ rest) (so.done ++ past) tail → Todo h k commands past (reverse so.done ++ tail) in
+    let L : ℕ → Type 0 = λ k. (h : List Entry) (tail : List Event) → HistoryGoesOn (so.more ++ past) h → Todo h k (c ∷ rest) (so.done ++ past) tail → Todo h k commands past (reverse so.done ++ tail) in
     let left = subst L (sym pass) so.left in
     let did : List Event = filter is_answer does.more in
     let all : does.more ++ (so.more ++ past) ≡ (does.more ++ so.more) ++ past = sym (append_assoc does.more so.more past) in
     let done : did ++ (so.done ++ past) ≡ (did ++ so.done) ++ past = sym (append_assoc did so.done past) in
-    let S : List Event → Type 0 = λ p. SoFar seen o start new is v p [] in
+    let S : List Event → Type 0 = λ p. HasPlayed seen o start new is v p [] in
     record {
       more = does.more ++ so.more;
       done = did ++ so.done;
@@ -224,8 +224,8 @@ progress_more seen o start desk new was is w v past commands c rest pass so does
       done_are = filter-append is_answer does.more so.more ∙ ap (λ xs. did ++ xs) so.done_are;
       held = ap (λ p. held_by p v.pass) (sym all) ∙ held_answers does.more (so.more ++ past) (so.done ++ past) v.pass held ∙ ap (λ p. held_by p v.pass) done;
       left = λ h tail goes t.
-          let G : List Event → Type 0 = λ l. GoesOn l h in
-          let here : GoesOn (does.more ++ (so.more ++ past)) h = subst G (sym all) goes in
+          let G : List Event → Type 0 = λ l. HistoryGoesOn l h in
+          let here : HistoryGoesOn (does.more ++ (so.more ++ past)) h = subst G (sym all) goes in
           let mine : List Event = reverse did in
           let E : List Event → Type 0 = λ earlier. Todo h v.pass rest earlier tail in
           let others : Todo h v.pass rest (reverse mine ++ (so.done ++ past)) tail = subst E (sym (ap (λ xs. xs ++ (so.done ++ past)) (reverse-reverse did) ∙ done)) t in
@@ -257,15 +257,15 @@ ending_more seen o start desk log w past commands h rest first so =
     let now : List Event = does.answer ∷ (does.before ++ (so.more ++ past)) in
     let answer : IsReceiptOf (note.Unfixed h.page h.frame h.number) does.answer = subst M here (does.answers (entries now) (goes_here now)) in
     let all : does.answer ∷ (does.before ++ (so.more ++ past)) ≡ does.answer ∷ ((does.before ++ so.more) ++ past) = ap (λ t. does.answer ∷ t) (sym (append_assoc does.before so.more past)) in
-    let S : List Event → Type 0 = λ p. SoFar seen o start desk log v p [] in
+    let S : List Event → Type 0 = λ p. HasPlayed seen o start desk log v p [] in
     record {
       more = does.answer ∷ does.before ++ so.more;
       done = does.answer ∷ so.done;
       so_far = subst S all does.so_far;
       done_are = filter_answer does.answer does.before so.more so.done (answers_answer (entries now) v.pass (command.Unfix h.page) (so.more ++ past) does.answer (does.answers (entries now) (goes_here now))) does.quiet so.done_are;
       left = λ hist tail goes back.
-          let L : List Event → Type 0 = λ l. GoesOn l hist in
-          let was : GoesOn (so.more ++ past) hist = goes_back_all (does.answer ∷ does.before) (so.more ++ past) hist (subst L (sym all) goes) in
+          let L : List Event → Type 0 = λ l. HistoryGoesOn l hist in
+          let was : HistoryGoesOn (so.more ++ past) hist = goes_back_all (does.answer ∷ does.before) (so.more ++ past) hist (subst L (sym all) goes) in
           let T : List Event → Type 0 = λ t. Todo hist v.pass commands past t in
           let G : List Held → Type 0 = λ held. GivesBack held tail in
           let F : List Held → Type 0 = λ held. GivesBack held (does.answer ∷ tail) in

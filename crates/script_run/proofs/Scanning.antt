@@ -23,8 +23,8 @@ use Rattle.script_text.specs.Grammar.{calls_of}
 use Rattle.script_text.specs.declared.script.Command.{Command}
 use Rattle.script_text.specs.declared.script.Command.TheVariants as command
 use Rattle.script_run.specs.Openings.{Start}
-use Rattle.script_run.specs.Todo.{is_one_call, IsEntryOf, IsReceiptOf, IsRefusal, Looks}
-use Rattle.script_run.specs.Work.{Working, SoFar, Does}
+use Rattle.script_run.specs.Todo.{is_one_call, IsEntryOf, IsReceiptOf, IsRefusal, LooksAt}
+use Rattle.script_run.specs.Work.{Working, HasPlayed, Does}
 use Rattle.script_run.specs.Several.{AlongFew, Done, Looked, Scanned}
 use Rattle.script_run.proofs.Along.{along_more, later_here}
 use Rattle.script_run.proofs.Growing.{left_same}
@@ -73,7 +73,7 @@ held_own e past k mine = held_pick (nat_eq (caller_of e) k) e (own k past) ∙ a
 
 -- the fixes behind a call, from those before it
 held_behind : {D : Type 0} (seen : D → DiskSeen) (o : Opening) (start : Start) (desk : State D) (log : Seen) (v : Working) (e : Event) (before past : List Event) (fixed : List Held)
-    → SoFar seen o start desk log v (e ∷ before ++ past) [] → filter is_answer before ≡ [] → held_by past v.pass ≡ fixed → v.fixed ≡ held_after e fixed
+    → HasPlayed seen o start desk log v (e ∷ before ++ past) [] → filter is_answer before ≡ [] → held_by past v.pass ≡ fixed → v.fixed ≡ held_after e fixed
 held_behind seen o start desk log v e before past fixed so quiet were =
     sym so.held ∙ held_own e (before ++ past) v.pass so.alone.0 ∙ ap (held_after e) (held_quiet before past v.pass quiet ∙ were)
 
@@ -122,7 +122,7 @@ lone : (e : Event) (before : List Event) → is_answer e ≡ true → filter is_
 lone e before answers quiet = ap (λ (b : Bool). cond b (e ∷ filter is_answer before) (filter is_answer before)) answers ∙ ap (λ xs. e ∷ xs) quiet
 
 pub looked_refused : {D : Type 0} (seen : D → DiskSeen) (o : Opening) (start : Start) (old new : State D) (was is : Seen) (w v : Working) (past : List Event) (p : PageId) (now : ℕ)
-    → SoFar seen o start old was w past [] → v.pass ≡ w.pass → length v.fixed ≡ length w.fixed → Does seen o start new is v past (command.Fix p now)
+    → HasPlayed seen o start old was w past [] → v.pass ≡ w.pass → length v.fixed ≡ length w.fixed → Does seen o start new is v past (command.Fix p now)
     → Looked seen o start new is v past p now
 looked_refused seen o start old new was is w v past p now so pass same d =
     let all : List Event = d.answer ∷ d.before ++ past in
@@ -134,7 +134,7 @@ looked_refused seen o start old new was is w v past p now so pass same d =
     record { more = d.answer ∷ d.before; so_far = d.so_far; looks = inr (d.answer, ap reverse (lone d.answer d.before answers d.quiet), refused) }
 
 pub looked_granted : {D : Type 0} (seen : D → DiskSeen) (o : Opening) (start : Start) (old new : State D) (was is : Seen) (w v u z : Working) (past : List Event) (p : PageId) (now : ℕ)
-    → SoFar seen o start old was w past [] → v.pass ≡ w.pass → (length v.fixed ≡ length w.fixed → ⊥) → (d : Does seen o start new is v past (command.Fix p now))
+    → HasPlayed seen o start old was w past [] → v.pass ≡ w.pass → (length v.fixed ≡ length w.fixed → ⊥) → (d : Does seen o start new is v past (command.Fix p now))
     → u.pass ≡ v.pass → (b : Does seen o start new is u (d.answer ∷ d.before ++ past) (command.Read p 38 4))
     → z.pass ≡ u.pass → Does seen o start new is z (b.answer ∷ b.before ++ (d.answer ∷ d.before ++ past)) (command.Unfix p)
     → Looked seen o start new is z past p now
@@ -172,7 +172,7 @@ looked_granted seen o start old new was is w v u z past p now so pass other d pa
     filter-append is_answer last (between ++ own) ∙ ap (λ l. filter is_answer last ++ l) (filter-append is_answer between own)
     ∙ ap (λ l. l ++ (filter is_answer between ++ filter is_answer own)) three ∙ ap (λ l. g.answer ∷ (l ++ filter is_answer own)) two
     ∙ ap (λ l. g.answer ∷ b.answer ∷ l) (one ∙ ap (λ e. e ∷ []) grant.is) in
-    let S : List Event → Type 0 = λ l. SoFar seen o start new is z l [] in
+    let S : List Event → Type 0 = λ l. HasPlayed seen o start new is z l [] in
     record {
       more = last ++ (between ++ own);
       so_far = subst S (sym together) g.so_far;
@@ -193,7 +193,7 @@ looked_granted seen o start old new was is w v u z past p now so pass other d pa
     }
 
 pub scanned_none : {D : Type 0} (seen : D → DiskSeen) (o : Opening) (start : Start) (desk : State D) (log : Seen) (w : Working) (past : List Event) (from : PageId) (now : ℕ)
-    → SoFar seen o start desk log w past [] → Scanned seen o start desk log w past from now 0
+    → HasPlayed seen o start desk log w past [] → Scanned seen o start desk log w past from now 0
 scanned_none seen o start desk log w past from now so = record { more = []; so_far = so; scans = refl }
 
 pub scanned_more : {D : Type 0} (seen : D → DiskSeen) (o : Opening) (start : Start) (desk new : State D) (was is : Seen) (w v : Working) (past : List Event) (from p : PageId) (now i n : ℕ)
@@ -201,8 +201,8 @@ pub scanned_more : {D : Type 0} (seen : D → DiskSeen) (o : Opening) (start : S
     → Scanned seen o start new is v past from now n
 scanned_more seen o start desk new was is w v past from p now i n next here s l =
     let C : ℕ → Type 0 = λ k. Scanned seen o start new is v past from now k in
-    let S : List Event → Type 0 = λ all. SoFar seen o start new is v all [] in
-    let L : PageId → Type 0 = λ q. Looks q now (reverse (filter is_answer l.more)) in
+    let S : List Event → Type 0 = λ all. HasPlayed seen o start new is v all [] in
+    let L : PageId → Type 0 = λ q. LooksAt q now (reverse (filter is_answer l.more)) in
     let suc_is : n ≡ suc i = omega (arith, next) in
     subst C (sym suc_is) (record {
       more = l.more ++ s.more;

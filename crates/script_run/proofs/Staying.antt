@@ -18,7 +18,7 @@ use Rattle.desk.specs.Ledger.{entry_behind}
 use Rattle.desk.specs.State.{State}
 use Rattle.desk.specs.Steps.{row_in}
 use Rattle.desk.specs.Victims.{IsHad, IsEvicted, IsCleanedFirst}
-use Rattle.script_run.specs.Work.{Working, AreHoused, AreHeld, AreInChunk, AreApart, IsReady}
+use Rattle.script_run.specs.Work.{Working, AreHoused, AreHeld, AreInChunk, AreHomesApart, IsWorkerReady}
 use Rattle.script_run.proofs.Fixes.{one_page, same_self}
 use Rattle.script_run.proofs.Framing.{held_kept}
 use Rattle.script_run.proofs.Growing.{me}
@@ -31,11 +31,11 @@ entry_of place caller number k = record { place = place; caller = caller; number
 -- homes and fixes fit at this history
 pub record Stays (config : Config) (h : List Entry) (rows : List Row) (fixed : List Held) : Type 0 where
   pub homes : AreInChunk config h
-  pub apart : AreApart h
+  pub apart : AreHomesApart h
   pub housed : AreHoused h fixed
   pub held : AreHeld rows fixed
 
-pub stays_ready : {D : Type 0} (seen : D → DiskSeen) (desk : State D) (frames : Plain) (fixed : List Held) → IsReady seen desk frames fixed → Stays desk.config desk.history frames.rows fixed
+pub stays_ready : {D : Type 0} (seen : D → DiskSeen) (desk : State D) (frames : Plain) (fixed : List Held) → IsWorkerReady seen desk frames fixed → Stays desk.config desk.history frames.rows fixed
 stays_ready seen desk frames fixed ready = record { homes = ready.homes; apart = ready.apart; housed = ready.housed; held = ready.held }
 
 pub stays_rows : (config : Config) (h : List Entry) (rows more : List Row) (fixed : List Held) → AreHeld more fixed → Stays config h rows fixed → Stays config h more fixed
@@ -124,7 +124,7 @@ stays_cleaned old w q mid rows (inr back) was =
     let x : Entry = entry_behind old.config.first old.history (me w) (kind.Write q back.dirt.newest back.upto) in
     stays_at old.config old.config (x ∷ old.history) mid rows w.fixed refl back.entry (stays_quiet old.config old.history x rows w.fixed (write_leaves q back.dirt.newest back.upto) was)
 
-stays_evicted : {D : Type 0} {cleared : List Row} (seen : D → DiskSeen) (old had : State D) (frames : Plain) (w : Working) (f : ℕ) → IsReady seen old frames w.fixed → IsEvicted old had frames.rows cleared (me w) f
+stays_evicted : {D : Type 0} {cleared : List Row} (seen : D → DiskSeen) (old had : State D) (frames : Plain) (w : Working) (f : ℕ) → IsWorkerReady seen old frames w.fixed → IsEvicted old had frames.rows cleared (me w) f
     → Stays had.config had.history cleared w.fixed
 stays_evicted {D} {cleared} seen old had frames w f ready evicted =
     let x : Entry = entry_behind old.config.first evicted.mid (me w) (kind.Evict evicted.page f evicted.passed) in
@@ -135,7 +135,7 @@ stays_evicted {D} {cleared} seen old had frames w f ready evicted =
     (stays_cleaned old w evicted.page evicted.mid cleared evicted.cleaned (stays_rows old.config old.history frames.rows cleared w.fixed held (stays_ready seen old frames w.fixed ready))))
 
 -- a frame is had
-pub stays_had : {D : Type 0} {cleared : List Row} (seen : D → DiskSeen) (old had : State D) (frames : Plain) (w : Working) (f : ℕ) → IsReady seen old frames w.fixed → IsHad old had frames.rows cleared (me w) f
+pub stays_had : {D : Type 0} {cleared : List Row} (seen : D → DiskSeen) (old had : State D) (frames : Plain) (w : Working) (f : ℕ) → IsWorkerReady seen old frames w.fixed → IsHad old had frames.rows cleared (me w) f
     → Stays had.config had.history cleared w.fixed
 stays_had seen old had frames w f ready (inl free) =
     let R : List Row → Type 0 = λ rows. AreHeld rows w.fixed in

@@ -6,7 +6,7 @@ use Rattle.script_run.specs.declared.ends.ReadErr.TheVariants as refusal
 use Rattle.script_run.specs.declared.ends.NoScript.{NoScript}
 use Rattle.script_run.specs.declared.ends.NoScript.TheVariants as none
 use Rattle.script_text.specs.Plan.{Plan}
-use Rattle.script_text.specs.Verdict.{IsScript, IsBad}
+use Rattle.script_text.specs.Verdict.{IsScript, IsBadScript}
 
 -- A source that told its bytes tells the rest of them: what was taken is a beginning, and with those that were taken before these are at most so many.
 abbrev pub IsTakenWithin : ℕ → ℕ → Option (List ℕ) → Option (List ℕ) → Type 0
@@ -26,7 +26,7 @@ pub record IsTakenScript (before after : Option (List ℕ)) (plan : Plan) : Type
 -- a source gave no script: its count rose, or what it had left is none, with this first bad line
 abbrev pub IsNoScriptErr : Option (List ℕ) → ℕ → ℕ → NoScript → Type 0
 IsNoScriptErr left before now none.Fault = Rose before now
-IsNoScriptErr left before now (none.Bad line) = (bytes : List ℕ) → left ≡ Some bytes → IsBad bytes line
+IsNoScriptErr left before now (none.Bad line) = (bytes : List ℕ) → left ≡ Some bytes → IsBadScript bytes line
 IsNoScriptErr left before now none.OutOfMemory = ⊤
 
 -- a bad line that is told is this one

@@ -4,7 +4,7 @@ use Rattle.page_ids.specs.Faults.{Rose}
 use Rattle.script_text.specs.CommandLine.{IsCalled}
 use Rattle.script_text.specs.Plan.{Plan}
 use Rattle.script_text.specs.Printed.{plan_text}
-use Rattle.script_text.specs.Verdict.{IsScript, IsBad}
+use Rattle.script_text.specs.Verdict.{IsScript, IsBadScript}
 use Rattle.script_text.specs.declared.program.Program.{Program}
 use Rattle.script_text.specs.declared.program.Program.TheVariants.{Check}
 use Rattle.script_run.specs.Ends.{IsTakenWithin}
@@ -30,12 +30,12 @@ pub record IsPrinted (old new : Streams) (status : ℕ) : Type 0 where
   pub cut : status ≡ 5 → (held : List ℕ) → old.held ≡ Some held → (n : ℕ) × (new.held ≡ Some (held ++ take n (plan_text plan)))
 
 -- how `check` ends
-pub record IsChecked (old new : Streams) (end : Plain) : Type 0 where
+pub record EndsCheck (old new : Streams) (end : Plain) : Type 0 where
   pub statuses : (end.status ≡ 0) ⊎ (end.status ≡ 3) ⊎ (end.status ≡ 4) ⊎ (end.status ≡ 5) ⊎ (end.status ≡ 7)
   pub line : end.status ≢ 3 → end.line ≡ 0
   pub printed : (end.status ≡ 0) ⊎ (end.status ≡ 5) → IsPrinted old new end.status
-  pub bad : end.status ≡ 3 → (bytes : List ℕ) → old.left ≡ Some bytes → IsBad bytes end.line
-  pub bad_only : (bytes : List ℕ) (n : ℕ) → old.left ≡ Some bytes → IsBad bytes n → IsNoScript end.status end.line n
+  pub bad : end.status ≡ 3 → (bytes : List ℕ) → old.left ≡ Some bytes → IsBadScript bytes end.line
+  pub bad_only : (bytes : List ℕ) (n : ℕ) → old.left ≡ Some bytes → IsBadScript bytes n → IsNoScript end.status end.line n
   pub read_fault : end.status ≡ 4 → Rose old.reads_failed new.reads_failed
   pub write_fault : end.status ≡ 5 → Rose old.writes_failed new.writes_failed
 
@@ -48,5 +48,5 @@ pub record IsPlainEnd (words : List (List ℕ)) (old new : Streams) (end : Plain
   pub usage : end.status ≡ 2 → CallsNothing words
   pub usage_only : CallsNothing words → (end.status ≡ 2) ⊎ (end.status ≡ 7)
   pub line : end.status ≢ 3 → end.line ≡ 0
-  pub checked : IsCalled words Check → (end.status ≡ 7) ⊎ IsChecked old new end
+  pub checked : IsCalled words Check → (end.status ≡ 7) ⊎ EndsCheck old new end
   pub taken : IsTakenWithin 0 1048577 old.left new.left

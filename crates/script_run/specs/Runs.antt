@@ -235,8 +235,8 @@ abbrev pub texts_of : ℕ → List Events → List ℕ
 texts_of instance [] = []
 texts_of instance (t ∷ ts) = trail_text instance t ++ texts_of (instance + 1) ts
 
-abbrev pub IsWritten : Option (List ℕ) → Option (List ℕ) → List Events → Type 0
-IsWritten before after trails = (held : List ℕ) → before ≡ Some held → after ≡ Some (held ++ texts_of 0 trails)
+abbrev pub AreTextsWritten : Option (List ℕ) → Option (List ℕ) → List Events → Type 0
+AreTextsWritten before after trails = (held : List ℕ) → before ≡ Some held → after ≡ Some (held ++ texts_of 0 trails)
 
 -- or a beginning of it
 abbrev pub IsWrittenInPart : Option (List ℕ) → Option (List ℕ) → List Events → Type 0
@@ -258,7 +258,7 @@ pub record IsAskedOnce (left : Option (List ℕ)) (now : Asked) : Type 0 where
   pub asked : now ≡ record { config = Some plan.config; disks = 1; log = log; strayed = false }
 
 -- The runner's clean wrote pages and was answered, or refused by the fault; without one no page is dirty.
-pub record IsClosed {D : Type 0} (old new : State D) (fault : Option FaultAt) : Type 0 where
+pub record IsClosingClean {D : Type 0} (old new : State D) (fault : Option FaultAt) : Type 0 where
   pub written : ℕ
   pub cleaned : IsCleanedBy old new (record { pass = 0; number = 1 }) written (closing_of fault written)
   pub most : written ≤ 16384

@@ -54,8 +54,8 @@ WritesAll h written (event.Entry e) = IsAllWritten h written e
 WritesAll h written (event.Receipt r) = ⊥
 
 -- the history goes on from that of these events
-abbrev pub GoesOn : List Event → List Entry → Type 0
-GoesOn past h = (later : List Entry) × (h ≡ later ++ entries past)
+abbrev pub HistoryGoesOn : List Event → List Entry → Type 0
+HistoryGoesOn past h = (later : List Entry) × (h ≡ later ++ entries past)
 
 -- The event answers a command of thread K, whose earlier answers, the newest first, say which fix the command works on. This is the history of its trail:
 -- a clean that wrote fewer pages than it may has written all that were dirty before it.
@@ -91,14 +91,14 @@ pub record IsLookedAt (p : PageId) (now : ℕ) (answers : List Event) : Type 0 w
   pub unfixed : IsReceiptOf (note.Unfixed p frame fix.number) unfix
 
 -- the answers to a page of a scan: it was looked at, or its fix was refused
-abbrev pub Looks : PageId → ℕ → List Event → Type 0
-Looks p now answers = IsLookedAt p now answers ⊎ ((e : Event) × (answers ≡ e ∷ []) × IsRefusal (call.Fix p now) e)
+abbrev pub LooksAt : PageId → ℕ → List Event → Type 0
+LooksAt p now answers = IsLookedAt p now answers ⊎ ((e : Event) × (answers ≡ e ∷ []) × IsRefusal (call.Fix p now) e)
 
 -- the answers to so many pages from this one on, in rising order
 abbrev pub Scans : PageId → ℕ → ℕ → List Event → Type 0
 Scans first now zero answers = answers ≡ []
 Scans first now (suc n) answers = (before : List Event) × (here : List Event) × (answers ≡ before ++ here) × Scans first now n before
-    × Looks (record { space = first.space; page = first.page + n }) now here
+    × LooksAt (record { space = first.space; page = first.page + n }) now here
 
 -- The answers of one command, where its trail has this history: one, and of a scan those to its pages.
 abbrev pub Makes : List Entry → ℕ → Command → List Event → List Event → Type 0

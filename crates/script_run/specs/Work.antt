@@ -37,7 +37,7 @@ use Rattle.desk.specs.declared.calls.FixErr.TheVariants as refusal
 use Rattle.desk.specs.declared.calls.CreateErr.{CreateErr}
 use Rattle.desk.specs.declared.calls.CreateErr.TheVariants as unmade
 use Rattle.script_text.specs.declared.script.Command.{Command}
-use Rattle.script_run.specs.Todo.{Answers, GoesOn, Todo, GivesBack}
+use Rattle.script_run.specs.Todo.{Answers, HistoryGoesOn, Todo, GivesBack}
 use Rattle.script_run.specs.Openings.{Start, opened_of, AreFaultsWithin}
 
 -- a worker: its pass, the number of its next call, the fixes that it holds and its receipts, both with the newest first
@@ -48,9 +48,9 @@ pub record Working : Type 0 where
   pub account : List Receipt
 
 -- the calls that got the fixes, the newest first, come before this number and before one another
-abbrev pub AreFalling : ℕ → List Held → Type 0
-AreFalling n [] = Unit {0}
-AreFalling n (held ∷ more) = (held.number < n) × AreFalling held.number more
+abbrev pub FixesFall : ℕ → List Held → Type 0
+FixesFall n [] = Unit {0}
+FixesFall n (held ∷ more) = (held.number < n) × FixesFall held.number more
 
 -- each event is this caller's
 abbrev pub AreOf : ℕ → List Event → Type 0
@@ -63,7 +63,7 @@ not_begun [] = 1
 not_begun (e ∷ made) = 0
 
 -- What a worker's own events say of its call with this number, which has made these entries: every earlier one has its answer.
-pub record IsCalling (mine : List Event) (n : ℕ) (pending : List Entry) : Type 0 where
+pub record IsWorkersCall (mine : List Event) (n : ℕ) (pending : List Entry) : Type 0 where
   pub first : 1 ≤ n
   pub made_are : made n mine ≡ pending
   pub count : calls_of mine + not_begun pending ≡ n
@@ -82,7 +82,7 @@ abbrev pub AreSteady : List Entry → Type 0
 AreSteady h = AllByRecursion (λ (e : Entry). leaves_chunks e.kind ≡ true) h
 
 -- What stands between two calls of a worker, or between two entries of one, which has made these entries; the devices were handed out so.
-pub record SoFar {D : Type 0} (seen : D → DiskSeen) (o : Opening) (start : Start) (desk : State D) (log : Seen) (worker : Working) (past : List Event) (pending : List Entry) : Type 0 where
+pub record HasPlayed {D : Type 0} (seen : D → DiskSeen) (o : Opening) (start : Start) (desk : State D) (log : Seen) (worker : Working) (past : List Event) (pending : List Entry) : Type 0 where
   -- the worker is the only caller, so the words that it found are just what the trail says
   pub good : AreLawful o (Some worker.pass) past
   pub promised : ArePromised o start.pages past
@@ -97,12 +97,12 @@ pub record SoFar {D : Type 0} (seen : D → DiskSeen) (o : Opening) (start : Sta
   pub last_log_fault : log_faults desk.history ≤ log.faults
   pub low_is : start.disk_faults ≤ (seen desk.disk).faults
   pub low_log : start.log_faults ≤ log.faults
-  pub calls : IsCalling (own worker.pass past) worker.next pending
+  pub calls : IsWorkersCall (own worker.pass past) worker.next pending
   -- no chunks came or went, and between calls no frame is in hand
   pub steady : AreSteady desk.history
   pub empty_handed : pending ≡ [] → (book desk.config desk.history).hands ≡ []
   pub held : held_by past worker.pass ≡ worker.fixed
-  pub falling : AreFalling worker.next worker.fixed
+  pub falling : FixesFall worker.next worker.fixed
   pub alone : AreOf worker.pass past
 
 -- what stands on the disk and in the frames behind a desk
@@ -134,8 +134,8 @@ pub record Does {D : Type 0} (seen : D → DiskSeen) (o : Opening) (start : Star
   pub answer : Event
   pub before : List Event
   pub quiet : filter is_answer before ≡ []
-  pub so_far : SoFar seen o start desk log worker (answer ∷ before ++ past) []
-  pub answers : (h : List Entry) → GoesOn (answer ∷ before ++ past) h → Answers h worker.pass command past answer
+  pub so_far : HasPlayed seen o start desk log worker (answer ∷ before ++ past) []
+  pub answers : (h : List Entry) → HistoryGoesOn (answer ∷ before ++ past) h → Answers h worker.pass command past answer
 
 -- each fix that is held is of a page that is in its frame
 abbrev pub AreHoused : List Entry → List Held → Type 0
@@ -147,30 +147,30 @@ abbrev pub AreInChunk : Config → List Entry → Type 0
 AreInChunk config h = (p : PageId) (f : ℕ) → home h p ≡ Some f → f < config.frames
 
 -- no two pages are at home in one frame
-abbrev pub AreApart : List Entry → Type 0
-AreApart h = (p q : PageId) (f : ℕ) → home h p ≡ Some f → home h q ≡ Some f → p ≡ q
+abbrev pub AreHomesApart : List Entry → Type 0
+AreHomesApart h = (p q : PageId) (f : ℕ) → home h p ≡ Some f → home h q ≡ Some f → p ≡ q
 
 -- how many of the fixes are of the frame
-abbrev pub fixes_in : ℕ → List Held → ℕ
-fixes_in f [] = 0
-fixes_in f (held ∷ more) = if held.frame == f then fixes_in f more + 1 else fixes_in f more
+abbrev pub fixes_of_frame : ℕ → List Held → ℕ
+fixes_of_frame f [] = 0
+fixes_of_frame f (held ∷ more) = if held.frame == f then fixes_of_frame f more + 1 else fixes_of_frame f more
 
 -- the frames have just these fixes
 abbrev pub AreHeld : List Row → List Held → Type 0
-AreHeld rows fixed = (f : ℕ) → f < length rows → (row_in rows f).held ≡ Some (fixes_in f fixed)
+AreHeld rows fixed = (f : ℕ) → f < length rows → (row_in rows f).held ≡ Some (fixes_of_frame f fixed)
 
 -- What the next call of a worker with these fixes needs of desk and frames, and leaves true. A pass may hold 64.
-pub record IsReady {D : Type 0} (seen : D → DiskSeen) (desk : State D) (frames : Plain) (fixed : List Held) : Type 0 where
+pub record IsWorkerReady {D : Type 0} (seen : D → DiskSeen) (desk : State D) (frames : Plain) (fixed : List Held) : Type 0 where
   pub tied : AreTied seen (seen_of frames) desk
   pub hands : IsEmptyHanded desk
   pub homes : AreInChunk desk.config desk.history
-  pub apart : AreApart desk.history
+  pub apart : AreHomesApart desk.history
   pub housed : AreHoused desk.history fixed
   pub held : AreHeld frames.rows fixed
   pub few : length fixed ≤ MOST_FIXES
 
 -- the frame is there and not latched, and no frame is visited
-pub record IsAtRest (frames : Plain) (f : ℕ) : Type 0 where
+pub record IsUndisturbed (frames : Plain) (f : ℕ) : Type 0 where
   pub inside : f < length frames.rows
   pub unvisited : frames.visit ≡ None
   pub unlatched : (row_in frames.rows f).latched ≡ false
@@ -216,7 +216,7 @@ pub record Along {D : Type 0} (seen : D → DiskSeen) (n : ℕ) (old new : State
   pub grown : length new.history ≤ length old.history + 16385 * n
   pub pass : v.pass ≡ w.pass
   pub next : v.next ≡ w.next + n
-  pub ready : IsReady seen old before w.fixed → IsReady seen new after v.fixed
+  pub ready : IsWorkerReady seen old before w.fixed → IsWorkerReady seen new after v.fixed
   pub behind : (o : Opened) → IsBehindIt seen o old before → IsBehindIt seen o new after
   pub log : IsLater was is
   pub known : log_end old.history ≤ was.end → log_end new.history ≤ is.end
@@ -225,22 +225,22 @@ pub record Along {D : Type 0} (seen : D → DiskSeen) (n : ℕ) (old new : State
 pub record Progress {D : Type 0} (seen : D → DiskSeen) (o : Opening) (start : Start) (desk : State D) (log : Seen) (worker : Working) (past : List Event) (commands rest : List Command) : Type 0 where
   pub more : List Event
   pub done : List Event
-  pub so_far : SoFar seen o start desk log worker (more ++ past) []
+  pub so_far : HasPlayed seen o start desk log worker (more ++ past) []
   pub done_are : filter is_answer more ≡ done
   pub held : held_by (more ++ past) worker.pass ≡ held_by (done ++ past) worker.pass
-  pub left : (h : List Entry) (tail : List Event) → GoesOn (more ++ past) h → Todo h worker.pass rest (done ++ past) tail → Todo h worker.pass commands past (reverse done ++ tail)
+  pub left : (h : List Entry) (tail : List Event) → HistoryGoesOn (more ++ past) h → Todo h worker.pass rest (done ++ past) tail → Todo h worker.pass commands past (reverse done ++ tail)
 
 -- All commands were done, and what is still held has to be given back.
 pub record Ending {D : Type 0} (seen : D → DiskSeen) (o : Opening) (start : Start) (desk : State D) (log : Seen) (worker : Working) (past : List Event) (commands : List Command) : Type 0 where
   pub more : List Event
   pub done : List Event
-  pub so_far : SoFar seen o start desk log worker (more ++ past) []
+  pub so_far : HasPlayed seen o start desk log worker (more ++ past) []
   pub done_are : filter is_answer more ≡ done
-  pub left : (h : List Entry) (tail : List Event) → GoesOn (more ++ past) h → GivesBack worker.fixed tail → Todo h worker.pass commands past (reverse done ++ tail)
+  pub left : (h : List Entry) (tail : List Event) → HistoryGoesOn (more ++ past) h → GivesBack worker.fixed tail → Todo h worker.pass commands past (reverse done ++ tail)
 
 -- The thread is done: its answers are those of its commands, and it holds nothing.
 pub record Worked {D : Type 0} (seen : D → DiskSeen) (o : Opening) (start : Start) (desk : State D) (log : Seen) (worker : Working) (past : List Event) (commands : List Command) : Type 0 where
   pub more : List Event
-  pub so_far : SoFar seen o start desk log worker (more ++ past) []
+  pub so_far : HasPlayed seen o start desk log worker (more ++ past) []
   pub none : worker.fixed ≡ []
-  pub todo : (h : List Entry) → GoesOn (more ++ past) h → Todo h worker.pass commands past (reverse (filter is_answer more))
+  pub todo : (h : List Entry) → HistoryGoesOn (more ++ past) h → Todo h worker.pass commands past (reverse (filter is_answer more))

@@ -6,7 +6,7 @@ ghost use Rattle.trail.specs.Trails.{Opening};
 ghost use Rattle.trail.specs.declared.event.Event.{Event};
 ghost use Rattle.script_text.specs.declared.script.Command.TheVariants.{Create};
 ghost use Rattle.script_run.specs.Openings.{Start};
-ghost use Rattle.script_run.specs.Work.{SoFar, Does, Along, IsReady, RefusesCreate};
+ghost use Rattle.script_run.specs.Work.{HasPlayed, Does, Along, IsWorkerReady, RefusesCreate};
 ghost use Rattle.script_run.specs.Workers.{working};
 
 use crate::pass::Pass;
@@ -47,12 +47,12 @@ impl Pass {
     ) -> Result<(), OutOfMemory>
         requires places { desk.old.state.config.first + length desk.old.state.history + FIX_NEED ≤ LIMIT }
         requires number { self.old.next + 1 < 2 ^ 32 }
-        requires ready { IsReady D.seen desk.old.state frames.old (reverse self.old.fixed.items) }
+        requires ready { IsWorkerReady D.seen desk.old.state frames.old (reverse self.old.fixed.items) }
         requires known { log_end desk.old.state.history ≤ redo.old.seen.end }
         ensures along { OnOk result (Along D.seen 1
             desk.old.state desk.new.state frames.old frames.new redo.old.seen redo.new.seen (working self.old) (working self.new)) }
         ensures done { OnOk result ((o : Opening) (start : Start) (past : List Event)
-            → SoFar D.seen o start desk.old.state redo.old.seen (working self.old) past []
+            → HasPlayed D.seen o start desk.old.state redo.old.seen (working self.old) past []
             → Does D.seen o start desk.new.state redo.new.seen (working self.new) past (Create page now)) }
         ensures opening { redo.new.opening ≡ redo.old.opening }
     {

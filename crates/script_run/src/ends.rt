@@ -1,6 +1,6 @@
 //! Reading a script from a source, and writing a text whole.
 ghost use Rattle.std.specs.Prelude.{◌≡◌, ◌≤◌, ◌<◌, ◌+◌, ◌⊎◌, ◌++◌, [], ℕ, List, true, false, Some, IfOk, IfErr, OnOk, OnErr, IsErrAnd, length, take, vec_len};
-ghost use Rattle.script_text.specs.Verdict.{IsBad};
+ghost use Rattle.script_text.specs.Verdict.{IsBadScript};
 ghost use Rattle.script_text.specs.Within.{IsWithin};
 ghost use Rattle.page_ids.specs.Faults.{Rose};
 ghost use Rattle.script_run.specs.Ends.{IsReadErr, IsTakenWithin, IsTakenScript, IsNoScriptErr, IsBadAt};
@@ -101,7 +101,7 @@ pub(crate) fn take_script<S: Source>(alloc: Global, source: &mut S) -> Result<Sc
     ensures within { IfOk result (λ script. IsWithin script) }
     ensures taken { IsTakenWithin 0 1048577 (S.left source.old) (S.left source.new) }
     ensures refused { IfErr result (IsNoScriptErr (S.left source.old) (S.fault_count source.old) (S.fault_count source.new)) }
-    ensures bad { (bytes : List ℕ) (n : ℕ) → S.left source.old ≡ Some bytes → IsBad bytes n
+    ensures bad { (bytes : List ℕ) (n : ℕ) → S.left source.old ≡ Some bytes → IsBadScript bytes n
         → IsErrAnd result (IsBadAt n) }
 {
     let bytes = match read_all(alloc, source) {

@@ -5,7 +5,7 @@ ghost use Rattle.script_text.specs.CommandLine.{IsCalled};
 ghost use Rattle.script_text.specs.Printed.{plan_text};
 ghost use Rattle.script_run.specs.Runs.{AreRun, IsSilent};
 ghost use Rattle.script_run.specs.Ends.{IsTakenWithin};
-ghost use Rattle.script_run.specs.Plain.{streams, IsChecked, IsPlainEnd};
+ghost use Rattle.script_run.specs.Plain.{streams, EndsCheck, IsPlainEnd};
 
 use crate::ends::{NoScript, take_script, write_all};
 use crate::outcome::Plain;
@@ -34,7 +34,7 @@ fn print<K: Sink>(alloc: Global, script: &Script, out: &mut K) -> u8
 
 /// Reads a script to its end, and writes its printed form.
 fn check<S: Source, K: Sink>(alloc: Global, input: &mut S, out: &mut K) -> Plain
-    ensures checked { IsChecked (streams (S.left input.old) (S.fault_count input.old) (K.held out.old) (K.fault_count out.old))
+    ensures checked { EndsCheck (streams (S.left input.old) (S.fault_count input.old) (K.held out.old) (K.fault_count out.old))
         (streams (S.left input.new) (S.fault_count input.new) (K.held out.new) (K.fault_count out.new)) result }
     ensures taken { IsTakenWithin 0 1048577 (S.left input.old) (S.left input.new) }
     ensures unwritten { IsSilent result.status → out.new ≡ out.old }

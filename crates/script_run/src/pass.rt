@@ -11,7 +11,7 @@ ghost use Rattle.redo_mark.specs.Logs.{Seen};
 ghost use Rattle.trail.specs.Dirt.{log_end};
 ghost use Rattle.desk.specs.Base.{Opened};
 ghost use Rattle.script_run.specs.Openings.{Start};
-ghost use Rattle.script_run.specs.Work.{SoFar, StandsBehind, IsBehindIt, Does, noted_at, Along, IsReady, IsAtRest, HasRange, IsRangeOf, RefusesFix, given_at, Ending};
+ghost use Rattle.script_run.specs.Work.{HasPlayed, StandsBehind, IsBehindIt, Does, noted_at, Along, IsWorkerReady, IsUndisturbed, HasRange, IsRangeOf, RefusesFix, given_at, Ending};
 ghost use Rattle.script_run.specs.Workers.{working};
 
 use desk::{CallErr, Caller, CleanErr, Desk, FixErr, Granted, PutErr, dirty_pages_are_few};
@@ -42,7 +42,7 @@ fn copied(
     at: u32,
     len: u32,
 ) -> Result<(Bytes, u64), OutOfMemory>
-    requires rest { IsAtRest frames.old frame }
+    requires rest { IsUndisturbed frames.old frame }
     requires range { HasRange (row_in frames.old.rows frame).image at len }
     ensures frames { frames.new ≡ frames.old }
     ensures long { IfOk result (λ r. length r.0 ≡ len) }
@@ -77,7 +77,7 @@ fn grant_in(answer: Result<Granted, FixErr>) -> Result<Option<Granted>, OutOfMem
 
 /// Gives a fix of a frame back.
 fn let_go(frames: &mut PlainFrames, frame: u32)
-    requires rest { IsAtRest frames.old frame }
+    requires rest { IsUndisturbed frames.old frame }
     requires held { 0 < held_of (row_in frames.old.rows frame) }
     ensures { frames.new ≡ given_at frames.old frame }
 {
@@ -122,12 +122,12 @@ impl Pass {
     ) -> Result<(), OutOfMemory>
         requires places { desk.old.state.config.first + length desk.old.state.history + FIX_NEED ≤ LIMIT }
         requires number { self.old.next + 1 < 2 ^ 32 }
-        requires ready { IsReady D.seen desk.old.state frames.old (reverse self.old.fixed.items) }
+        requires ready { IsWorkerReady D.seen desk.old.state frames.old (reverse self.old.fixed.items) }
         requires known { log_end desk.old.state.history ≤ redo.old.seen.end }
         ensures along { OnOk result (Along D.seen 1
             desk.old.state desk.new.state frames.old frames.new redo.old.seen redo.new.seen (working self.old) (working self.new)) }
         ensures done { OnOk result ((o : Opening) (start : Start) (past : List Event)
-            → SoFar D.seen o start desk.old.state redo.old.seen (working self.old) past []
+            → HasPlayed D.seen o start desk.old.state redo.old.seen (working self.old) past []
             → StandsBehind D.seen o start desk.old.state frames.old
             → Does D.seen o start desk.new.state redo.new.seen (working self.new) past (Command.Fix page now)) }
         ensures opening { redo.new.opening ≡ redo.old.opening }
@@ -220,12 +220,12 @@ impl Pass {
     ) -> Result<(), OutOfMemory>
         requires places { desk.now.state.config.first + length desk.now.state.history < 2 ^ 64 }
         requires number { self.old.next + 1 < 2 ^ 32 }
-        requires ready { IsReady D.seen desk.now.state frames.old (reverse self.old.fixed.items) }
+        requires ready { IsWorkerReady D.seen desk.now.state frames.old (reverse self.old.fixed.items) }
         requires range { IsInRange desk.now.state.config.page (Command.Read page at len) }
         ensures along { OnOk result ((log : Seen) → Along D.seen 1
             desk.now.state desk.now.state frames.old frames.new log log (working self.old) (working self.new)) }
         ensures done { OnOk result ((o : Opening) (start : Start) (log : Seen) (past : List Event)
-            → SoFar D.seen o start desk.now.state log (working self.old) past []
+            → HasPlayed D.seen o start desk.now.state log (working self.old) past []
             → StandsBehind D.seen o start desk.now.state frames.old
             → Does D.seen o start desk.now.state log (working self.new) past (Command.Read page at len)) }
     {
@@ -259,11 +259,11 @@ impl Pass {
     ) -> Result<(), OutOfMemory>
         requires places { desk.now.state.config.first + length desk.now.state.history < 2 ^ 64 }
         requires number { self.old.next + 1 < 2 ^ 32 }
-        requires ready { IsReady D.seen desk.now.state frames.old (reverse self.old.fixed.items) }
+        requires ready { IsWorkerReady D.seen desk.now.state frames.old (reverse self.old.fixed.items) }
         ensures along { OnOk result ((log : Seen) → Along D.seen 1
             desk.now.state desk.now.state frames.old frames.new log log (working self.old) (working self.new)) }
         ensures done { OnOk result ((o : Opening) (start : Start) (log : Seen) (past : List Event)
-            → SoFar D.seen o start desk.now.state log (working self.old) past []
+            → HasPlayed D.seen o start desk.now.state log (working self.old) past []
             → StandsBehind D.seen o start desk.now.state frames.old
             → Does D.seen o start desk.now.state log (working self.new) past (Command.Unfix page)) }
     {
@@ -299,13 +299,13 @@ impl Pass {
     ) -> Result<(), OutOfMemory>
         requires places { desk.old.state.config.first + length desk.old.state.history + ANSWER_NEED ≤ LIMIT }
         requires number { self.old.next + 1 < 2 ^ 32 }
-        requires ready { IsReady D.seen desk.old.state frames.old (reverse self.old.fixed.items) }
+        requires ready { IsWorkerReady D.seen desk.old.state frames.old (reverse self.old.fixed.items) }
         requires range { IsInRange desk.old.state.config.page (Command.Put page at bytes.now) }
         requires known { log_end desk.old.state.history ≤ redo.old.seen.end }
         ensures along { OnOk result (Along D.seen 1
             desk.old.state desk.new.state frames.old frames.new redo.old.seen redo.new.seen (working self.old) (working self.new)) }
         ensures done { OnOk result ((o : Opening) (start : Start) (past : List Event)
-            → SoFar D.seen o start desk.old.state redo.old.seen (working self.old) past []
+            → HasPlayed D.seen o start desk.old.state redo.old.seen (working self.old) past []
             → Does D.seen o start desk.new.state redo.new.seen (working self.new) past
             (Command.Put page at bytes.now)) }
         ensures opening { redo.new.opening ≡ redo.old.opening }
@@ -341,13 +341,13 @@ impl Pass {
     ) -> Result<(), OutOfMemory>
         requires places { desk.old.state.config.first + 2 * length desk.old.state.history + 16385 ≤ LIMIT }
         requires number { self.old.next + 1 < 2 ^ 32 }
-        requires ready { IsReady D.seen desk.old.state frames.old (reverse self.old.fixed.items) }
+        requires ready { IsWorkerReady D.seen desk.old.state frames.old (reverse self.old.fixed.items) }
         requires range { IsInRange desk.old.state.config.page (Command.Clean bound) }
         requires known { log_end desk.old.state.history ≤ redo.old.seen.end }
         ensures along { OnOk result (Along D.seen 1
             desk.old.state desk.new.state frames.old frames.new redo.old.seen redo.new.seen (working self.old) (working self.new)) }
         ensures done { OnOk result ((o : Opening) (start : Start) (past : List Event)
-            → SoFar D.seen o start desk.old.state redo.old.seen (working self.old) past []
+            → HasPlayed D.seen o start desk.old.state redo.old.seen (working self.old) past []
             → Does D.seen o start desk.new.state redo.new.seen (working self.new) past (Command.Clean bound)) }
         ensures opening { redo.new.opening ≡ redo.old.opening }
     {
@@ -387,7 +387,7 @@ impl Pass {
         ensures along { OnOk result ((frames : Plain) → Along D.seen 1
             desk.old.state desk.new.state frames frames redo.now.seen redo.now.seen (working self.old) (working self.new)) }
         ensures done { OnOk result ((o : Opening) (start : Start) (past : List Event)
-            → SoFar D.seen o start desk.old.state redo.now.seen (working self.old) past []
+            → HasPlayed D.seen o start desk.old.state redo.now.seen (working self.old) past []
             → Does D.seen o start desk.new.state redo.now.seen (working self.new) past Command.Checkpoint) }
     {
         let number = self.next;
@@ -413,8 +413,8 @@ impl Pass {
         requires places { desk.now.state.config.first + length desk.now.state.history < 2 ^ 64 }
         requires number { self.old.next + 1 < 2 ^ 32 }
         requires some { 0 < length self.old.fixed.items }
-        requires ready { IsReady D.seen desk.now.state frames.old (reverse self.old.fixed.items) }
-        ensures ready { OnOk result (IsReady D.seen desk.now.state frames.new (reverse self.new.fixed.items)) }
+        requires ready { IsWorkerReady D.seen desk.now.state frames.old (reverse self.old.fixed.items) }
+        ensures ready { OnOk result (IsWorkerReady D.seen desk.now.state frames.new (reverse self.new.fixed.items)) }
         ensures behind { OnOk result ((o : Opened) → IsBehindIt D.seen o desk.now.state frames.old
             → IsBehindIt D.seen o desk.now.state frames.new) }
         ensures fewer { OnOk result (length self.new.fixed.items + 1 ≡ length self.old.fixed.items) }

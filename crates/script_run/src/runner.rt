@@ -15,11 +15,11 @@ ghost use Rattle.desk.specs.Base.{Opened};
 ghost use Rattle.desk.specs.Logged.{IsLogged};
 ghost use Rattle.script_text.specs.Plan.{Plan, commands_of};
 ghost use Rattle.script_text.specs.Within.{IsWithin};
-ghost use Rattle.script_text.specs.Verdict.{IsScript, IsBad};
+ghost use Rattle.script_text.specs.Verdict.{IsScript, IsBadScript};
 ghost use Rattle.script_run.specs.Ends.{IsTakenWithin};
-ghost use Rattle.script_run.specs.Work.{IsReady, IsBehindIt};
-ghost use Rattle.script_run.specs.Runs.{IsFlushFault, IsFlushedWith, IsClosed, IsEndedRun, IsEnded, IsLongLog, IsLogAsOpened, HasEnded, IsRunStatus, IsSilent, IsNoScript, AreSynced};
-ghost use Rattle.script_run.specs.Runs.{IsWritten, IsWrittenInPart, AreRun, IsAskedOnce, disk_as, log_as, is_refused, has_refusal};
+ghost use Rattle.script_run.specs.Work.{IsWorkerReady, IsBehindIt};
+ghost use Rattle.script_run.specs.Runs.{IsFlushFault, IsFlushedWith, IsClosingClean, IsEndedRun, IsEnded, IsLongLog, IsLogAsOpened, HasEnded, IsRunStatus, IsSilent, IsNoScript, AreSynced};
+ghost use Rattle.script_run.specs.Runs.{AreTextsWritten, IsWrittenInPart, AreRun, IsAskedOnce, disk_as, log_as, is_refused, has_refusal};
 
 use crate::ends::{NoScript, take_script, write_all};
 use crate::outcome::{Outcome, bare};
@@ -85,10 +85,10 @@ fn close<D: PageDisk, R: RedoDisk>(
     redo: &mut Redo<R>,
 ) -> Result<Option<FaultAt>, OutOfMemory>
     requires places { desk.old.state.config.first + length desk.old.state.history + length (dirty desk.old.state.history) + 1 < 2 ^ CLOCK_BITS }
-    requires ready { IsReady D.seen desk.old.state frames.old [] }
+    requires ready { IsWorkerReady D.seen desk.old.state frames.old [] }
     requires frames { desk.old.state.config.frames ≤ 8192 }
     requires known { log_end desk.old.state.history ≤ redo.old.seen.end }
-    ensures closed { IfOk result (λ fault. IsClosed desk.old.state desk.new.state fault) }
+    ensures closed { IfOk result (λ fault. IsClosingClean desk.old.state desk.new.state fault) }
     ensures fault { IfOk result (λ fault. IfSome fault (λ f. IsFlushedWith (D.seen desk.old.state.disk).faults
         (D.seen desk.new.state.disk).faults redo.old.seen.faults redo.new.seen.faults f)) }
     ensures logged { IsLogged redo.old.seen desk.old.state.history → IsLogged redo.new.seen desk.new.state.history }
@@ -225,7 +225,7 @@ fn told<D: PageDisk, R: RedoDisk, K: Sink>(
         × (result.redo ≡ Some redo) }
     ensures bare { result.status ≡ 7 → (result.trails.items ≡ []) × (result.disks.items ≡ []) × (result.redo ≡ None)
         × (out.new ≡ out.old) }
-    ensures written { (result.status ≡ 0) ⊎ (result.status ≡ 1) → IsWritten (K.held out.old) (K.held out.new) (trail ∷ []) }
+    ensures written { (result.status ≡ 0) ⊎ (result.status ≡ 1) → AreTextsWritten (K.held out.old) (K.held out.new) (trail ∷ []) }
     ensures refused { (result.status ≡ 0) ⊎ (result.status ≡ 1) → (result.status ≡ 1) ↔ IsTrue (has_refusal (trail ∷ [])) }
     ensures cut { result.status ≡ 5 → Rose (K.fault_count out.old) (K.fault_count out.new) × IsWrittenInPart (K.held out.old) (K.held out.new) (trail ∷ []) }
 {
@@ -284,7 +284,7 @@ fn run_script<K: Sink, H: Shelf>(
     ensures bare { (HasEnded result.status result.fault → ⊥) → (result.trails.items ≡ []) × (result.disks.items ≡ [])
         × (result.fault ≡ None) × (result.status ≢ 3 → result.redo ≡ None) }
     ensures fault { IfSome result.fault (λ f. (result.status ≡ 6) × IsFlushFault f) }
-    ensures written { (result.status ≡ 0) ⊎ (result.status ≡ 1) → IsWritten (K.held out.old) (K.held out.new) result.trails.items }
+    ensures written { (result.status ≡ 0) ⊎ (result.status ≡ 1) → AreTextsWritten (K.held out.old) (K.held out.new) result.trails.items }
     ensures refused { (result.status ≡ 0) ⊎ (result.status ≡ 1) → (result.status ≡ 1) ↔ IsTrue (has_refusal result.trails.items) }
     ensures cut { result.status ≡ 5 → Rose (K.fault_count out.old) (K.fault_count out.new)
         × IsWrittenInPart (K.held out.old) (K.held out.new) result.trails.items }
@@ -361,9 +361,9 @@ pub fn run<R, S: Source, K: Sink, H: Shelf>(
     ensures usage_only { (AreRun (map string_bytes words.now) → ⊥) → (result.status ≡ 2) ⊎ (result.status ≡ 7) }
     ensures unread { result.status ≡ 2 → (script.new ≡ script.old) × (shelf.new ≡ shelf.old) }
     ensures read_fault { result.status ≡ 4 → Rose (S.fault_count script.old) (S.fault_count script.new) }
-    ensures bad_script { result.status ≡ 3 → (((bytes : List ℕ) → S.left script.old ≡ Some bytes → IsBad bytes result.line) × (result.redo ≡ None))
+    ensures bad_script { result.status ≡ 3 → (((bytes : List ℕ) → S.left script.old ≡ Some bytes → IsBadScript bytes result.line) × (result.redo ≡ None))
         ⊎ IsLongLog (S.left script.old) (H.seen shelf.old).log.told H.Redo.seen result.line result.redo }
-    ensures bad_only { (bytes : List ℕ) (n : ℕ) → S.left script.old ≡ Some bytes → IsBad bytes n → IsNoScript result.status result.line n }
+    ensures bad_only { (bytes : List ℕ) (n : ℕ) → S.left script.old ≡ Some bytes → IsBadScript bytes n → IsNoScript result.status result.line n }
     ensures line { result.status ≢ 3 → result.line ≡ 0 }
     ensures opening { result.status ≡ 6 → result.fault ≡ None → Rose (H.seen shelf.old).faults (H.seen shelf.new).faults }
     ensures ended { HasEnded result.status result.fault → IsEnded (S.left script.old) ((H.seen shelf.old).disks 0) (H.seen shelf.old).log H.Disk.seen H.Redo.seen
@@ -372,7 +372,7 @@ pub fn run<R, S: Source, K: Sink, H: Shelf>(
     ensures bare { (HasEnded result.status result.fault → ⊥) → (result.trails.items ≡ []) × (result.disks.items ≡ [])
         × (result.fault ≡ None) × (result.status ≢ 3 → result.redo ≡ None) }
     ensures fault { IfSome result.fault (λ f. (result.status ≡ 6) × IsFlushFault f) }
-    ensures written { (result.status ≡ 0) ⊎ (result.status ≡ 1) → IsWritten (K.held out.old) (K.held out.new) result.trails.items }
+    ensures written { (result.status ≡ 0) ⊎ (result.status ≡ 1) → AreTextsWritten (K.held out.old) (K.held out.new) result.trails.items }
     ensures refused { (result.status ≡ 0) ⊎ (result.status ≡ 1) → (result.status ≡ 1) ↔ IsTrue (has_refusal result.trails.items) }
     ensures cut { result.status ≡ 5 → Rose (K.fault_count out.old) (K.fault_count out.new) × IsWrittenInPart (K.held out.old) (K.held out.new) result.trails.items }
     ensures unwritten { IsSilent result.status → out.new ≡ out.old }

@@ -7,7 +7,7 @@ ghost use Rattle.trail.specs.declared.event.Event.{Event};
 ghost use Rattle.script_text.specs.Within.{IsInRange};
 ghost use Rattle.script_text.specs.declared.script.Command.TheVariants.{Scan};
 ghost use Rattle.script_run.specs.Openings.{Start};
-ghost use Rattle.script_run.specs.Work.{SoFar, StandsBehind, IsReady};
+ghost use Rattle.script_run.specs.Work.{HasPlayed, StandsBehind, IsWorkerReady};
 ghost use Rattle.script_run.specs.Several.{AlongFew, Done, Looked};
 ghost use Rattle.script_run.specs.Workers.{working};
 
@@ -32,12 +32,12 @@ impl Pass {
     ) -> Result<(), OutOfMemory>
         requires places { desk.old.state.config.first + 2 * length desk.old.state.history + 98310 ≤ LIMIT }
         requires number { self.old.next + 3 < 2 ^ 32 }
-        requires ready { IsReady D.seen desk.old.state frames.old (reverse self.old.fixed.items) }
+        requires ready { IsWorkerReady D.seen desk.old.state frames.old (reverse self.old.fixed.items) }
         requires known { log_end desk.old.state.history ≤ redo.old.seen.end }
         ensures along { OnOk result (AlongFew D.seen 3
             desk.old.state desk.new.state frames.old frames.new redo.old.seen redo.new.seen (working self.old) (working self.new)) }
         ensures done { OnOk result ((o : Opening) (start : Start) (past : List Event)
-            → SoFar D.seen o start desk.old.state redo.old.seen (working self.old) past []
+            → HasPlayed D.seen o start desk.old.state redo.old.seen (working self.old) past []
             → StandsBehind D.seen o start desk.old.state frames.old
             → Looked D.seen o start desk.new.state redo.new.seen (working self.new) past page now) }
         ensures opening { redo.new.opening ≡ redo.old.opening }
@@ -64,13 +64,13 @@ impl Pass {
     ) -> Result<(), OutOfMemory>
         requires places { desk.old.state.config.first + 2 * length desk.old.state.history + 98310 * (last - from.page + 1) ≤ LIMIT }
         requires number { self.old.next + 3 * (last - from.page + 1) < 2 ^ 32 }
-        requires ready { IsReady D.seen desk.old.state frames.old (reverse self.old.fixed.items) }
+        requires ready { IsWorkerReady D.seen desk.old.state frames.old (reverse self.old.fixed.items) }
         requires range { IsInRange desk.old.state.config.page (Scan from last now) }
         requires known { log_end desk.old.state.history ≤ redo.old.seen.end }
         ensures along { OnOk result (AlongFew D.seen (3 * (last - from.page + 1))
             desk.old.state desk.new.state frames.old frames.new redo.old.seen redo.new.seen (working self.old) (working self.new)) }
         ensures done { OnOk result ((o : Opening) (start : Start) (past : List Event)
-            → SoFar D.seen o start desk.old.state redo.old.seen (working self.old) past []
+            → HasPlayed D.seen o start desk.old.state redo.old.seen (working self.old) past []
             → StandsBehind D.seen o start desk.old.state frames.old
             → Done D.seen o start desk.new.state redo.new.seen (working self.new) past (Scan from last now)) }
         ensures opening { redo.new.opening ≡ redo.old.opening }

@@ -11,7 +11,7 @@ ghost use Rattle.trail.specs.Dirt.{log_end};
 ghost use Rattle.desk.specs.Base.{Opened};
 ghost use Rattle.desk.specs.Changes.{LeavesDesk};
 ghost use Rattle.script_run.specs.Openings.{Start};
-ghost use Rattle.script_run.specs.Work.{SoFar, StandsBehind, IsBehindIt, Does, Along, IsReady, Progress, Ending, Worked};
+ghost use Rattle.script_run.specs.Work.{HasPlayed, StandsBehind, IsBehindIt, Does, Along, IsWorkerReady, Progress, Ending, Worked};
 ghost use Rattle.script_run.specs.Several.{AlongFew, Done};
 ghost use Rattle.script_run.specs.Todo.{is_one_call};
 ghost use Rattle.script_run.specs.Workers.{working};
@@ -36,14 +36,14 @@ fn call<D: PageDisk, R: RedoDisk>(
 ) -> Result<(), OutOfMemory>
     requires places { desk.old.state.config.first + 2 * length desk.old.state.history + 16385 ≤ LIMIT }
     requires number { pass.old.next + 1 < 2 ^ 32 }
-    requires ready { IsReady D.seen desk.old.state frames.old (reverse pass.old.fixed.items) }
+    requires ready { IsWorkerReady D.seen desk.old.state frames.old (reverse pass.old.fixed.items) }
     requires range { IsInRange desk.old.state.config.page command.now }
     requires one { is_one_call command.now ≡ true }
     requires known { log_end desk.old.state.history ≤ redo.old.seen.end }
     ensures along { OnOk result (Along D.seen 1
         desk.old.state desk.new.state frames.old frames.new redo.old.seen redo.new.seen (working pass.old) (working pass.new)) }
     ensures done { OnOk result ((o : Opening) (start : Start) (past : List Event)
-        → SoFar D.seen o start desk.old.state redo.old.seen (working pass.old) past []
+        → HasPlayed D.seen o start desk.old.state redo.old.seen (working pass.old) past []
         → StandsBehind D.seen o start desk.old.state frames.old
         → Does D.seen o start desk.new.state redo.new.seen (working pass.new) past command.now) }
     ensures opening { redo.new.opening ≡ redo.old.opening }
@@ -78,13 +78,13 @@ fn step<D: PageDisk, R: RedoDisk>(
 ) -> Result<(), OutOfMemory>
     requires places { desk.old.state.config.first + 2 * length desk.old.state.history + 32770 * calls_of 1 command.now ≤ LIMIT }
     requires number { pass.old.next + calls_of 1 command.now < 2 ^ 32 }
-    requires ready { IsReady D.seen desk.old.state frames.old (reverse pass.old.fixed.items) }
+    requires ready { IsWorkerReady D.seen desk.old.state frames.old (reverse pass.old.fixed.items) }
     requires range { IsInRange desk.old.state.config.page command.now }
     requires known { log_end desk.old.state.history ≤ redo.old.seen.end }
     ensures along { OnOk result (AlongFew D.seen (calls_of 1 command.now)
         desk.old.state desk.new.state frames.old frames.new redo.old.seen redo.new.seen (working pass.old) (working pass.new)) }
     ensures done { OnOk result ((o : Opening) (start : Start) (past : List Event)
-        → SoFar D.seen o start desk.old.state redo.old.seen (working pass.old) past []
+        → HasPlayed D.seen o start desk.old.state redo.old.seen (working pass.old) past []
         → StandsBehind D.seen o start desk.old.state frames.old
         → Done D.seen o start desk.new.state redo.new.seen (working pass.new) past command.now) }
     ensures opening { redo.new.opening ≡ redo.old.opening }
@@ -108,13 +108,13 @@ fn do_all<D: PageDisk, R: RedoDisk>(
 ) -> Result<(), OutOfMemory>
     requires places { desk.old.state.config.first + 2 * length desk.old.state.history + 32770 * calls_in 1 commands.now ≤ LIMIT }
     requires number { pass.old.next + calls_in 1 commands.now < 2 ^ 32 }
-    requires ready { IsReady D.seen desk.old.state frames.old (reverse pass.old.fixed.items) }
+    requires ready { IsWorkerReady D.seen desk.old.state frames.old (reverse pass.old.fixed.items) }
     requires ranges { AllByRecursion (IsInRange desk.old.state.config.page) commands.now }
     requires known { log_end desk.old.state.history ≤ redo.old.seen.end }
     ensures along { OnOk result (AlongFew D.seen (calls_in 1 commands.now)
         desk.old.state desk.new.state frames.old frames.new redo.old.seen redo.new.seen (working pass.old) (working pass.new)) }
     ensures done { OnOk result ((o : Opening) (start : Start) (past : List Event)
-        → SoFar D.seen o start desk.old.state redo.old.seen (working pass.old) past []
+        → HasPlayed D.seen o start desk.old.state redo.old.seen (working pass.old) past []
         → StandsBehind D.seen o start desk.old.state frames.old
         → Progress D.seen o start desk.new.state redo.new.seen (working pass.new) past commands.now []) }
     ensures opening { redo.new.opening ≡ redo.old.opening }
@@ -133,8 +133,8 @@ fn give_back_all<D: PageDisk>(
 ) -> Result<(), OutOfMemory>
     requires places { desk.now.state.config.first + length desk.now.state.history < 2 ^ 64 }
     requires number { pass.old.next + length pass.old.fixed.items < 2 ^ 32 }
-    requires ready { IsReady D.seen desk.now.state frames.old (reverse pass.old.fixed.items) }
-    ensures ready { OnOk result (IsReady D.seen desk.now.state frames.new []) }
+    requires ready { IsWorkerReady D.seen desk.now.state frames.old (reverse pass.old.fixed.items) }
+    ensures ready { OnOk result (IsWorkerReady D.seen desk.now.state frames.new []) }
     ensures behind { OnOk result ((o : Opened) → IsBehindIt D.seen o desk.now.state frames.old
         → IsBehindIt D.seen o desk.now.state frames.new) }
     ensures pass { OnOk result (pass.new.pass ≡ pass.old.pass) }
@@ -160,12 +160,12 @@ pub fn work<D: PageDisk, R: RedoDisk>(
     requires places { desk.old.state.config.first + 2 * length desk.old.state.history + 32770 * calls_in 1 commands.now ≤ LIMIT }
     requires number { pass.old.next + calls_in 1 commands.now + MOST_FIXES < 2 ^ 32 }
     requires new { length pass.old.fixed.items ≡ 0 }
-    requires ready { IsReady D.seen desk.old.state frames.old (reverse pass.old.fixed.items) }
+    requires ready { IsWorkerReady D.seen desk.old.state frames.old (reverse pass.old.fixed.items) }
     requires ranges { AllByRecursion (IsInRange desk.old.state.config.page) commands.now }
     requires known { log_end desk.old.state.history ≤ redo.old.seen.end }
     ensures left { OnOk result (LeavesDesk D.seen desk.old.state desk.new.state) }
     ensures grown { OnOk result (length desk.new.state.history ≤ length desk.old.state.history + 16385 * calls_in 1 commands.now) }
-    ensures ready { OnOk result (IsReady D.seen desk.new.state frames.new []) }
+    ensures ready { OnOk result (IsWorkerReady D.seen desk.new.state frames.new []) }
     ensures behind { OnOk result ((o : Opened) → IsBehindIt D.seen o desk.old.state frames.old
         → IsBehindIt D.seen o desk.new.state frames.new) }
     ensures log { OnOk result (IsLater redo.old.seen redo.new.seen) }
@@ -173,7 +173,7 @@ pub fn work<D: PageDisk, R: RedoDisk>(
     ensures opening { redo.new.opening ≡ redo.old.opening }
     ensures pass { OnOk result (pass.new.pass ≡ pass.old.pass) }
     ensures done { OnOk result ((o : Opening) (start : Start) (past : List Event)
-        → SoFar D.seen o start desk.old.state redo.old.seen (working pass.old) past []
+        → HasPlayed D.seen o start desk.old.state redo.old.seen (working pass.old) past []
         → StandsBehind D.seen o start desk.old.state frames.old
         → Worked D.seen o start desk.new.state redo.new.seen (working pass.new) past commands.now) }
 {

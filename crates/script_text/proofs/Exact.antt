@@ -12,7 +12,7 @@ use Rattle.page_ids.specs.Spelling.{page_text, hex}
 use Rattle.page_ids.specs.declared.ids.PageId.{PageId}
 use Rattle.page_ids.specs.Typed.{FitsId}
 use Rattle.script_text.specs.Text.{range_text, command_words, item_words, setting_name, is_nothing, IsTyped, IsTypedItem, IsSpelled}
-use Rattle.script_text.specs.Reading.{page_of, range_of, hex_of, keyword_text, found, keywords, keyword_of, one, two, three, fix_of, create_of, read_of, put_of, unfix_of, scan_of, clean_of, checkpoint_of, thread_of, set_of, said_by, words_say, line_says}
+use Rattle.script_text.specs.Reading.{◌>>=◌, page_of, range_of, hex_of, keyword_text, found, keywords, keyword_of, one, two, three, fix_of, create_of, read_of, put_of, unfix_of, scan_of, clean_of, checkpoint_of, thread_of, set_of, said_by, words_say, line_says}
 use Rattle.page_ids.proofs.Cuts.{Lacks, decimal_lacks, cut_here, cut_is}
 use Rattle.page_ids.proofs.Numbers.{number_of-decimal, number_is}
 use Rattle.script_text.proofs.Hex.{hex_read, hex_is}
@@ -124,21 +124,21 @@ thread_words args i e = one_some _ args i e (λ v shape e1. option_and_then_some
     let words : args ≡ decimal k ∷ [] = simp (shape, a.0) in
     subst (λ (j : Item). IsWords j (codes "thread" ∷ args)) same (ap (λ r. codes "thread" ∷ r) words, a.1)))
 
-fix_words : (args : List (List ℕ)) (i : Item) → fix_of args ≡ Some i → IsWords i (codes "fix" ∷ args)
-fix_words args i e = two_some _ args i e (λ p t shape e1. option_and_then_some _ (page_of p) i e1 (λ page pe e2. option_and_then_some _ (number_of (2 ^ 64) t) i e2 (λ now te e3.
+-- a page and a moment
+page_moment : (make : PageId → ℕ → Item) (args : List (List ℕ)) (i : Item) → two (λ p t. page_of p >>= λ page. number_of (2 ^ 64) t >>= λ now. Some (make page now)) args ≡ Some i
+    → (page : PageId) × (now : ℕ) × (make page now ≡ i) × (args ≡ page_text page ∷ decimal now ∷ []) × FitsId page × (now < 2 ^ 64)
+page_moment make args i e = two_some _ args i e (λ p t shape e1. option_and_then_some _ (page_of p) i e1 (λ page pe e2. option_and_then_some _ (number_of (2 ^ 64) t) i e2 (λ now te e3.
     let a = page_is p page pe in
     let b = number_is (2 ^ 64) now t (lit≤ tt) te in
-    let same : Does (Fix page now) ≡ i = cc in
+    let same : make page now ≡ i = cc in
     let words : args ≡ page_text page ∷ decimal now ∷ [] = simp (shape, a.0, b.0) in
-    subst (λ (j : Item). IsWords j (codes "fix" ∷ args)) same (ap (λ r. codes "fix" ∷ r) words, (a.1, b.1)))))
+    (page, now, same, words, a.1, b.1))))
+
+fix_words : (args : List (List ℕ)) (i : Item) → fix_of args ≡ Some i → IsWords i (codes "fix" ∷ args)
+fix_words args i e = let w = page_moment (λ page now. Does (Fix page now)) args i e in subst (λ (j : Item). IsWords j (codes "fix" ∷ args)) w.2 (ap (λ r. codes "fix" ∷ r) w.3, (w.4, w.5))
 
 create_words : (args : List (List ℕ)) (i : Item) → create_of args ≡ Some i → IsWords i (codes "create" ∷ args)
-create_words args i e = two_some _ args i e (λ p t shape e1. option_and_then_some _ (page_of p) i e1 (λ page pe e2. option_and_then_some _ (number_of (2 ^ 64) t) i e2 (λ now te e3.
-    let a = page_is p page pe in
-    let b = number_is (2 ^ 64) now t (lit≤ tt) te in
-    let same : Does (Create page now) ≡ i = cc in
-    let words : args ≡ page_text page ∷ decimal now ∷ [] = simp (shape, a.0, b.0) in
-    subst (λ (j : Item). IsWords j (codes "create" ∷ args)) same (ap (λ r. codes "create" ∷ r) words, (a.1, b.1)))))
+create_words args i e = let w = page_moment (λ page now. Does (Create page now)) args i e in subst (λ (j : Item). IsWords j (codes "create" ∷ args)) w.2 (ap (λ r. codes "create" ∷ r) w.3, (w.4, w.5))
 
 read_words : (args : List (List ℕ)) (i : Item) → read_of args ≡ Some i → IsWords i (codes "read" ∷ args)
 read_words args i e = three_some _ args i e (λ p x y shape e1. option_and_then_some _ (page_of p) i e1 (λ page pe e2. option_and_then_some _ (number_of (2 ^ 32) x) i e2 (λ at xe e3. option_and_then_some _ (number_of (2 ^ 32) y) i e3 (λ len ye e4.

@@ -4,7 +4,7 @@ use Rattle.std.specs.Prelude.{if◌then◌else◌}
 use Rattle.std.proofs.lemmas.List.{append_assoc, append-nil, length-append}
 use Rattle.script_text.specs.declared.lines.Item.{Item}
 use Rattle.script_text.specs.Reading.{line_says}
-use Rattle.script_text.specs.Grammar.{SoFar, step, Line, IsRefused, Takes, AreRead, nothing_said}
+use Rattle.script_text.specs.Grammar.{SoFar, step, Line, IsRefusedLine, Takes, AreRead, nothing_said}
 use Rattle.script_text.specs.Verdict.{IsBadLine}
 use Rattle.script_text.proofs.Exact.{read_is_spelled, spelled_is_read}
 
@@ -13,7 +13,7 @@ line_step old after line i says (j, spelled, stepped) =
     let same : j ≡ i = let other : line_says line ≡ Some j = spelled_is_read line j spelled in cc in
     subst (λ (k : Item). step old k ≡ Some after) same stepped
 
-pub refused : (old : SoFar) (line : List ℕ) → line_says line ≡ None → IsRefused old line
+pub refused : (old : SoFar) (line : List ℕ) → line_says line ≡ None → IsRefusedLine old line
 refused old line says after (j, spelled, stepped) = let other : line_says line ≡ Some j = spelled_is_read line j spelled in
     let bad : ◌≡◌ {A = Option Item} None (Some j) = sym says ∙ other in absurd (cc)
 
@@ -44,7 +44,7 @@ seen_more lines left line n old new s l = record {
 pub seen_all : (lines : List (List ℕ)) (n : ℕ) (s : SoFar) → Seen lines n [] s → AreRead nothing_said lines s
 seen_all lines n s h = subst (λ (ls : List (List ℕ)). AreRead nothing_said ls s) (sym (h.whole ∙ append-nil h.done)) h.read
 
-pub seen_bad : (lines left : List (List ℕ)) (line : List ℕ) (n : ℕ) (s : SoFar) → Seen lines n (line ∷ left) s → IsRefused s line → IsBadLine lines (n + 1)
+pub seen_bad : (lines left : List (List ℕ)) (line : List ℕ) (n : ℕ) (s : SoFar) → Seen lines n (line ∷ left) s → IsRefusedLine s line → IsBadLine lines (n + 1)
 seen_bad lines left line n s h bad = record {
   earlier = h.done;
   line = line;

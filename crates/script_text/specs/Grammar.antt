@@ -129,13 +129,13 @@ abbrev pub Line : SoFar → List ℕ → SoFar → Type 0
 Line old line new = (i : Item) × IsSpelled i line × (step old i ≡ Some new)
 
 -- the line may not stand there
-abbrev pub IsRefused : SoFar → List ℕ → Type 0
-IsRefused old line = (new : SoFar) → Line old line new → ⊥
+abbrev pub IsRefusedLine : SoFar → List ℕ → Type 0
+IsRefusedLine old line = (new : SoFar) → Line old line new → ⊥
 
 -- whether the line may stand there, and what it then makes
 abbrev pub Takes : SoFar → List ℕ → Bool → SoFar → Type 0
 Takes old line true new = Line old line new
-Takes old line false new = IsRefused old line
+Takes old line false new = IsRefusedLine old line
 
 -- what lines make of it
 abbrev pub AreRead : SoFar → List (List ℕ) → SoFar → Type 0

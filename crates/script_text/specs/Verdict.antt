@@ -2,7 +2,7 @@
 use Rattle.std.specs.Prelude.{ℕ, true, false, List, ◌∷◌, ◌++◌, ◌≡◌, ◌+◌, ◌<◌, ◌≤◌, ◌⊎◌, length}
 use Rattle.script_text.specs.Plan.{Plan}
 use Rattle.script_text.specs.declared.script.TheConstants.{SCRIPT_BYTES}
-use Rattle.script_text.specs.Grammar.{SoFar, nothing_said, IsRefused, AreRead, lines_of}
+use Rattle.script_text.specs.Grammar.{SoFar, nothing_said, IsRefusedLine, AreRead, lines_of}
 use Rattle.script_text.specs.Faults.{is_faulty}
 
 abbrev pub plan_of : SoFar → Plan
@@ -32,10 +32,10 @@ pub record IsBadLine (lines : List (List ℕ)) (n : ℕ) : Type 0 where
   pub whole : lines ≡ earlier ++ line ∷ later
   pub number : length earlier + 1 ≡ n
   pub read : AreRead nothing_said earlier before
-  pub bad : IsRefused before line
+  pub bad : IsRefusedLine before line
 
 -- the bytes are no script: line 0 for a script that is too long or whose whole has a fault
-abbrev pub IsBad : List ℕ → ℕ → Type 0
-IsBad bytes n =
+abbrev pub IsBadScript : List ℕ → ℕ → Type 0
+IsBadScript bytes n =
     ((n ≡ 0) × ((SCRIPT_BYTES < length bytes) ⊎ IsFaulty bytes))
     ⊎ ((length bytes ≤ SCRIPT_BYTES) × IsBadLine (lines_of bytes) n)

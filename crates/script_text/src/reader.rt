@@ -3,7 +3,7 @@ ghost use Rattle.std.specs.Prelude.{◌≡◌, ◌+◌, ◌≤◌, ◌∷◌, �
 ghost use Rattle.script_text.specs.Plan.{Plan};
 ghost use Rattle.script_text.specs.Grammar.{Takes, AreRead, lines_of, nothing_said};
 ghost use Rattle.script_text.specs.Faults.{is_faulty};
-ghost use Rattle.script_text.specs.Verdict.{IsBadLine, IsScript, IsBad};
+ghost use Rattle.script_text.specs.Verdict.{IsBadLine, IsScript, IsBadScript};
 ghost use Rattle.script_text.specs.Within.{IsWithin};
 ghost use Rattle.script_text.specs.Left.{lines_left, left};
 
@@ -78,7 +78,7 @@ fn is_faulty(script: &Script) -> bool
 /// Reads a script. As bytes have one verdict only, what `read_script` says follows from these clauses.
 fn read_whole(alloc: Global, bytes: &[u8]) -> Result<Script, ScriptErr>
     ensures read { IfOk result (λ script. IsScript bytes.now script) }
-    ensures bad { (n : ℕ) → result ≡ Err (ScriptErr.BadLine n) → IsBad bytes.now n }
+    ensures bad { (n : ℕ) → result ≡ Err (ScriptErr.BadLine n) → IsBadScript bytes.now n }
 {
     if bytes.len() > SCRIPT_BYTES {
         return Err(ScriptErr::BadLine { line: 0 });
@@ -101,8 +101,8 @@ pub fn read_script(alloc: Global, bytes: &[u8]) -> Result<Script, ScriptErr>
     ensures within { IfOk result (λ script. IsWithin script) }
     ensures only { (plan : Plan) → IsScript bytes.now plan
         → MatchResult result (λ script. script ≡ plan) (λ e. e ≡ ScriptErr.OutOfMemory) }
-    ensures bad { (n : ℕ) → result ≡ Err (ScriptErr.BadLine n) → IsBad bytes.now n }
-    ensures bad_only { (n : ℕ) → IsBad bytes.now n
+    ensures bad { (n : ℕ) → result ≡ Err (ScriptErr.BadLine n) → IsBadScript bytes.now n }
+    ensures bad_only { (n : ℕ) → IsBadScript bytes.now n
         → (result ≡ Err (ScriptErr.BadLine n)) ⊎ (result ≡ Err ScriptErr.OutOfMemory) }
 {
     read_whole(alloc, bytes)

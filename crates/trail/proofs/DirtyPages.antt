@@ -1,6 +1,5 @@
 -- Which pages are dirty behind a change and behind a write, and what the disk has of a clean page.
-use Rattle.std.proofs.Common.{◌≡◌, ℕ, zero, suc, Bool, true, false, not, cond, List, [], ◌∷◌, ◌&&◌, ◌||◌, Option, None, Some, slice_get, refl, ap, ◌∙◌, sym, subst, eq-eqb, nat_eq, arith, replicate}
-use Rattle.std.proofs.lemmas.Bool.Decides.{nat_tests}
+use Rattle.std.proofs.Common.{◌≡◌, ℕ, zero, suc, Bool, true, false, not, cond, List, [], ◌∷◌, ◌&&◌, ◌||◌, Option, None, Some, slice_get, refl, ap, ◌∙◌, sym, subst, replicate}
 use Rattle.std.specs.Prelude.{is_some, if◌then◌else◌, ⊤}
 use Rattle.std.specs.Option.{option_map}
 use Rattle.page_ids.specs.Content.{Content, patched}
@@ -13,22 +12,7 @@ use Rattle.trail.specs.declared.event.Kind.TheVariants as kind
 use Rattle.trail.specs.History.{value, value_after}
 use Rattle.trail.specs.Dirt.{dirtied, cleaned, dirty, dirty_after, dirt_of, is_dirty}
 use Rattle.trail.specs.Saved.{saved, saved_after, is_written, written_after}
-
-pub same_self : (p : PageId) → same_page p p ≡ true
-same_self p = ap (λ (b : Bool). b && nat_eq p.page p.page) (eq-eqb p.space p.space refl) ∙ eq-eqb p.page p.page refl
-
-both : (a b : Bool) → (a && b) ≡ true → (a ≡ true) × (b ≡ true)
-both true b h = (refl, h)
-both false b h = absurd (cc)
-
-number_is : (m n : ℕ) → nat_eq m n ≡ true → m ≡ n
-number_is m n h = grind (arith, nat_tests)
-
-pub one_page : (p q : PageId) → same_page p q ≡ true → p ≡ q
-one_page p q h =
-    let tests = both (nat_eq p.space q.space) (nat_eq p.page q.page) h in
-    let make = λ (s n : ℕ). let id : PageId = record { space = s; page = n } in id in
-    ap (λ s. make s p.page) (number_is p.space q.space tests.0) ∙ ap (λ n. make q.space n) (number_is p.page q.page tests.1)
+use Rattle.page_ids.proofs.Basics.{same_self, one_page}
 
 other_way : (p q : PageId) → same_page p q ≡ false → same_page q p ≡ false
 other_way p q other = cases (same_page q p) refl

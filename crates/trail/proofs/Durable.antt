@@ -15,7 +15,8 @@ use Rattle.trail.specs.Saved.{AreDurable}
 use Rattle.trail.specs.Dirt.{dirtied, cleaned, dirty, dirty_after, dirt_of, log_end, log_end_after}
 use Rattle.trail.specs.Laws.{AreLawful}
 use Rattle.trail.specs.Trails.{Opening, entries}
-use Rattle.trail.proofs.DirtyPages.{one_page, cleaned_other, dirtied_same, changed}
+use Rattle.page_ids.proofs.Basics.{one_page}
+use Rattle.trail.proofs.DirtyPages.{cleaned_other, dirtied_same, changed}
 
 -- the last change is durable, or its page is dirty with its end as the newest LSN
 abbrev Reaches : ℕ → List Dirty → ℕ → Type 0

@@ -11,7 +11,7 @@ use Rattle.trail.specs.declared.event.Event.TheVariants as event
 use Rattle.trail.specs.Trails.{Opening, most}
 use Rattle.trail.specs.Kinds.{Refusing, refusal_in, refusal_noted}
 use Rattle.trail.specs.declared.event.Hand.{Hand}
-use Rattle.trail.specs.Book.{Book, first_in, frame_in_turn, give, give_next, is_holder, is_inside, next_frame, use_frame}
+use Rattle.trail.specs.Book.{Book, first_in, frame_in_turn, give, give_next, is_holder, is_in_area, next_frame, use_frame}
 use Rattle.trail.specs.Spaces.{IsNotMissing, IsOutside, named_page, page_noted, page_shown, pages_in_cause, pages_told_by, shown_pages, told_pages}
 use Rattle.trail.specs.Promises.{ArePromised, IsNoteOfSpaces, IsOfSpaces}
 use Rattle.trail.specs.Alone.{IsTrueEvent}
@@ -138,7 +138,7 @@ pub given_up : (per : ℕ) (b : Book) (c n : ℕ) → HasTurn b c n → (give_ne
 given_up per b c n has = cases (next_frame b c n) (sym (turn_of b c n has))
   where
     given : (f : ℕ) → (use_frame f b).hands ≡ [] → (give per f b).hands ≡ []
-    given f used = by_area (is_inside per b f)
+    given f used = by_area (is_in_area per b f)
       where
         by_area : (t : Bool) → (let used = use_frame f b in let after : Book = cond t (record used { withdrawn = b.withdrawn ++ f ∷ [] }) (record used { free = used.free ++ f ∷ [] }) in after.hands) ≡ []
         by_area true = used

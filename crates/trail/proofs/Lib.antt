@@ -1,7 +1,6 @@
 pub mod Lines
 pub mod Ranked
 pub mod Merged
-pub mod Numbers
 pub mod Visible
 pub mod Cuts
 pub mod Words

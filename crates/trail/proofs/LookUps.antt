@@ -14,11 +14,11 @@ use Rattle.trail.specs.Trails.{AreNumbered, before, mark}
 use Rattle.trail.specs.Kinds.{Placing, arrival_in}
 use Rattle.trail.specs.History.{home, home_after, arrived, tenant}
 use Rattle.trail.specs.Book.{is_in}
-use Rattle.trail.specs.Words.{frames_of, AreFixedWords}
+use Rattle.trail.specs.Words.{frames_told, AreFixedWords}
 use Rattle.trail.specs.Calls.{before_call, first_made}
 use Rattle.trail.specs.Legal.{is_skipped}
 use Rattle.trail.specs.Victim.{before_of, ArePassed, AreJust}
-use Rattle.trail.proofs.DirtyPages.{one_page, same_self}
+use Rattle.page_ids.proofs.Basics.{one_page, same_self}
 
 -- an option by cases, and a list by its elements
 pub on_some : {A : Type 0} (o : Option A) (P : A → Type 0) → ((x : A) → o ≡ Some x → P x) → IfSome o P
@@ -102,12 +102,12 @@ before_split p (q ∷ ahead) behind other =
 
 -- words of just these pages
 pub passed_of : (h : List Entry) (pages : List PageId) (passed : List (ℕ × Word))
-    → ((q : PageId) → Contains pages q → (f : ℕ) × (home h q ≡ Some f) × Contains (frames_of passed) f)
-    → ((f : ℕ) → Contains (frames_of passed) f → (q : PageId) × Contains pages q × (home h q ≡ Some f))
+    → ((q : PageId) → Contains pages q → (f : ℕ) × (home h q ≡ Some f) × Contains (frames_told passed) f)
+    → ((f : ℕ) → Contains (frames_told passed) f → (q : PageId) × Contains pages q × (home h q ≡ Some f))
     → AreFixedWords h passed → ArePassed h pages passed
 passed_of h pages passed each only fixed = record {
-  each = by_elements _ pages (λ q here. let f = each q here in is_some_and (home h q) (λ g. IsTrue (is_in g (frames_of passed))) f.0 f.1 (in_of f.0 (frames_of passed) f.2));
-  only = by_elements _ (frames_of passed) (λ f here.
+  each = by_elements _ pages (λ q here. let f = each q here in is_some_and (home h q) (λ g. IsTrue (is_in g (frames_told passed))) f.0 f.1 (in_of f.0 (frames_told passed) f.2));
+  only = by_elements _ (frames_told passed) (λ f here.
       let q = only f here in
       any_of (λ r. option_map_or (λ g. nat_eq g f) (home h r) false) pages q.0 q.1
       (ap (λ (o : Option ℕ). option_map_or (λ g. nat_eq g f) o false) q.2 ∙ eq-eqb f f refl));
@@ -211,7 +211,7 @@ tenant_none h f none = find_no (is_there h f) (arrived h) (λ q. cases q (is_the
 pub none_skipped : (h : List Entry) (p : PageId) → is_skipped h [] p ≡ false
 none_skipped h p = cases (home h p)
   where
-    cases : (o : Option ℕ) → option_map_or (λ f. is_in f (frames_of [])) o false ≡ false
+    cases : (o : Option ℕ) → option_map_or (λ f. is_in f (frames_told [])) o false ≡ false
     cases None = refl
     cases (Some f) = refl
 

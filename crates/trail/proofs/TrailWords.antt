@@ -12,9 +12,11 @@ use Rattle.trail.specs.declared.event.Event.{Event}
 use Rattle.trail.specs.declared.event.Event.TheVariants as event
 use Rattle.trail.specs.Trails.{Events}
 use Rattle.trail.specs.Spelling.{event_text, lines_text, trail_text, is_entry, stamp_text}
-use Rattle.trail.specs.Typed.{EventFits, AllFit, Opens, TrailFits}
+use Rattle.trail.specs.Typed.{EventFits, AllFit, BeginsBehind, TrailFits}
 use Rattle.trail.proofs.Visible.{AreVisible, visible, visible-append, small_visible, number_visible}
-use Rattle.trail.proofs.Cuts.{cut_at, cut_here, decimal_lacks, spelled, words_cut, line_lacks}
+use Rattle.page_ids.specs.Numerals.{cut_at}
+use Rattle.page_ids.proofs.Cuts.{cut_here, decimal_lacks}
+use Rattle.trail.proofs.Cuts.{spelled, words_cut, line_lacks}
 use Rattle.trail.proofs.Words.{◌>>=◌, reads, u32, u64, read32, read64}
 use Rattle.trail.proofs.KindWords.{kind_words, kind_of, kind_read, kind_visible, kind_spelled}
 use Rattle.trail.proofs.NoteWords.{note_words, note_of, note_read, note_visible, note_spelled}
@@ -121,7 +123,7 @@ same_events (x ∷ es) (f ∷ fs) a b e =
     let here : x ≡ f = cc in
     ap₂ (λ (y : Event) (ys : List Event). y ∷ ys) here (same_events es fs a.1 b.1 (rest_of (event_text x) (event_text f) _ _ e))
 
-same_first : (m n : ℕ) (es : List Event) → Opens m es → Opens n es → m ≡ n
+same_first : (m n : ℕ) (es : List Event) → BeginsBehind m es → BeginsBehind n es → m ≡ n
 same_first m n [] a b = absurd a
 same_first m n (event.Entry e ∷ es) a b = omega (arith, a, b)
 same_first m n (event.Receipt r ∷ es) a b = same_first m n es a b
@@ -133,6 +135,6 @@ same_trail i j t u a b e =
     let words = sym (words_cut (codes "trail") (head_rest i t) refl (head_visible i t a)) ∙ ap (slice_split (λ x. x == 32)) heads ∙ words_cut (codes "trail") (head_rest j u) refl (head_visible j u b) in
     let number : decimal i ≡ decimal j = first_of (decimal i) (decimal j) _ _ (rest_of (codes "trail") (codes "trail") (head_rest i t) (head_rest j u) words) in
     let events : t.events ≡ u.events = same_events t.events u.events a.typed b.typed (rest_of (codes "trail" ++ spelled (head_rest i t)) (codes "trail" ++ spelled (head_rest j u)) _ _ lines) in
-    let opens : Opens t.first u.events = subst (λ (es : List Event). Opens t.first es) events a.opens in
+    let opens : BeginsBehind t.first u.events = subst (λ (es : List Event). BeginsBehind t.first es) events a.opens in
     let first : t.first ≡ u.first = same_first t.first u.first u.events opens b.opens in
     (decimal_injective i j (omega (arith, a.numbered)) (omega (arith, b.numbered)) number, ap₂ (λ (n : ℕ) (es : List Event). record { first = n; events = es }) first events)

@@ -2,7 +2,6 @@
 use Rattle.std.proofs.Common.{ℕ, List, [], ◌∷◌, ◌++◌, ◌≡◌, ◌+◌, ◌/◌, ◌%◌, ◌^◌, ◌<◌, ◌≤◌, ◌∙◌, ◌&&◌, Bool, true, false, nat_lt, nat_eq, refl, ap, append_assoc, arith}
 use Rattle.std.specs.Prelude.{◌==◌}
 use Rattle.std.specs.Fmt.{decimal, digit_glyph}
-use Rattle.std.specs.List.{All}
 use Rattle.std.proofs.lemmas.Fmt.{decimal_by_steps}
 use Rattle.std.proofs.lemmas.Bool.Decides.{nat_tests}
 use Rattle.std.proofs.lemmas.List.Elements.{All-cons, All-nil}
@@ -10,7 +9,8 @@ use Rattle.page_ids.specs.FrameWord.{word_text, flags_text, clock_of, fixes_of, 
 use Rattle.page_ids.specs.Spelling.{page_text, hex, after_commas, list_text, frame_text}
 use Rattle.page_ids.specs.declared.frame_word.Word.{Word}
 use Rattle.page_ids.specs.declared.ids.PageId.{PageId}
-use Rattle.page_ids.specs.Typed.{FitsId, IsWord, AreBytes, ArePages, AreFrames}
+use Rattle.page_ids.proofs.Cuts.{Lacks}
+use Rattle.page_ids.specs.Typed.{FitsId, IsWord, AreBytes, ArePages, AreFrameWords}
 
 -- the bytes behind the blank in ASCII
 abbrev pub visible : List ℕ → Bool
@@ -34,9 +34,6 @@ visible-append (x ∷ xs) ys a b = one (nat_lt 32 x) a (λ more. visible-append 
     one false a more = a
 
 -- a visible word lacks every byte up to the blank
-abbrev pub Lacks : ℕ → List ℕ → Type 0
-Lacks c xs = All (λ x. (x == c) ≡ false) xs
-
 pub visible_lacks : (c : ℕ) → c < 33 → (w : List ℕ) → visible w ≡ true → Lacks c w
 visible_lacks c low [] v = All-nil (λ x. (x == c) ≡ false)
 visible_lacks c low (x ∷ xs) v = one (nat_lt 32 x) refl v (λ more. visible_lacks c low xs more)
@@ -90,11 +87,11 @@ word_visible w h =
 frame_visible : (f : ℕ × Word) → f.0 < 2 ^ 32 → IsWord f.1 → visible (frame_text f) ≡ true
 frame_visible f small h = visible-append (decimal f.0) (61 ∷ word_text f.1) (small_visible f.0 small) (word_visible f.1 h)
 
-frames_behind : (fs : List (ℕ × Word)) → AreFrames fs → visible (after_commas frame_text fs) ≡ true
+frames_behind : (fs : List (ℕ × Word)) → AreFrameWords fs → visible (after_commas frame_text fs) ≡ true
 frames_behind [] h = refl
 frames_behind (f ∷ fs) h = visible-append (frame_text f) (after_commas frame_text fs) (frame_visible f h.0.0 h.0.1) (frames_behind fs h.1)
 
-pub frames_visible : (fs : List (ℕ × Word)) → AreFrames fs → visible (list_text frame_text fs) ≡ true
+pub frames_visible : (fs : List (ℕ × Word)) → AreFrameWords fs → visible (list_text frame_text fs) ≡ true
 frames_visible [] h = refl
 frames_visible (f ∷ fs) h = visible-append (frame_text f) (after_commas frame_text fs) (frame_visible f h.0.0 h.0.1) (frames_behind fs h.1)
 

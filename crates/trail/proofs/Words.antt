@@ -14,20 +14,22 @@ use Rattle.page_ids.specs.Spelling.{page_text, hex, after_commas, list_text, fra
 use Rattle.page_ids.specs.declared.frame_word.Word.{Word}
 use Rattle.page_ids.specs.declared.ids.PageId.{PageId}
 use Rattle.trail.specs.Spelling.{arrived_text}
-use Rattle.page_ids.specs.Typed.{FitsId, IsWord, AreBytes, ArePages, AreFrames}
-use Rattle.trail.proofs.Numbers.{number_of, number_read}
-use Rattle.trail.proofs.Visible.{Lacks, word_parts}
-use Rattle.trail.proofs.Cuts.{cut_at, cut_here, decimal_lacks, lacks-append, items_cut}
+use Rattle.page_ids.specs.Typed.{FitsId, IsWord, AreBytes, ArePages, AreFrameWords}
+use Rattle.page_ids.specs.Numerals.{number_of, cut_at}
+use Rattle.page_ids.proofs.Numbers.{number_of-decimal}
+use Rattle.page_ids.proofs.Cuts.{Lacks, cut_here, decimal_lacks}
+use Rattle.trail.proofs.Visible.{word_parts}
+use Rattle.trail.proofs.Cuts.{lacks-append, items_cut}
 
 infixl 10 ◌>>=◌
 abbrev pub ◌>>=◌ : {A B : Type 0} → Option A → (A → Option B) → Option B
 o >>= f = option_and_then f o
 
 pub read32 : (n : ℕ) → n < 2 ^ 32 → number_of (2 ^ 32) (decimal n) ≡ Some n
-read32 n h = number_read (2 ^ 32) n (omega arith) h
+read32 n h = number_of-decimal (2 ^ 32) n (omega arith) h
 
 pub read64 : (n : ℕ) → n < 2 ^ 64 → number_of (2 ^ 64) (decimal n) ≡ Some n
-read64 n h = number_read (2 ^ 64) n h h
+read64 n h = number_of-decimal (2 ^ 64) n h h
 
 wide : (n : ℕ) → n < 2 ^ 32 → n < 2 ^ 64
 wide n h = omega arith
@@ -178,11 +180,11 @@ frame_lacks f h =
 frame_long : (f : ℕ × Word) → IsFrame f → 1 < length (frame_text f)
 frame_long f h = omega (arith, decimal_nonempty f.0 (wide _ h.0), length-append (decimal f.0) (61 ∷ word_text f.1))
 
-frames : (fs : List (ℕ × Word)) → AreFrames fs → AllByRecursion IsFrame fs
+frames : (fs : List (ℕ × Word)) → AreFrameWords fs → AllByRecursion IsFrame fs
 frames [] h = tt
 frames (f ∷ fs) h = (h.0, frames fs h.1)
 
-pub frames_read : (fs : List (ℕ × Word)) → AreFrames fs → frames_of (words_text fs) ≡ Some fs
+pub frames_read : (fs : List (ℕ × Word)) → AreFrameWords fs → frames_of (words_text fs) ≡ Some fs
 frames_read fs h = list_read frame_text frame_of IsFrame frame_read frame_lacks frame_long fs (frames fs h)
 
 -- the next word, and what is left

@@ -4,6 +4,7 @@ use Rattle.std.specs.Prelude.{ℕ, Bool, true, false, not, List, [], ◌∷◌, 
 use Rattle.std.specs.List.{list_any}
 use Rattle.std.specs.Option.{option_map_or}
 use Rattle.page_ids.specs.Chunks.{chunks_of, rising}
+use Rattle.page_ids.specs.FrameLists.{front, without}
 use Rattle.page_ids.specs.declared.config.Config.{Config}
 use Rattle.trail.specs.declared.event.Call.{Call}
 use Rattle.trail.specs.declared.event.Call.TheVariants as call
@@ -27,14 +28,6 @@ pub record Book : Type 0 where
   pub withdrawn : List ℕ
   pub hands : List Hand
 
-abbrev pub without : ℕ → List ℕ → List ℕ
-without f [] = []
-without f (g ∷ gs) = if f == g then gs else g ∷ without f gs
-
-abbrev pub front : List ℕ → Option ℕ
-front [] = None
-front (f ∷ fs) = Some f
-
 -- the newest frame in these hands, or else the front of the free list
 abbrev pub first_in : List Hand → List ℕ → Option ℕ
 first_in [] free = front free
@@ -53,8 +46,8 @@ abbrev pub next_frame : Book → ℕ → ℕ → Option ℕ
 next_frame b c n = first_in (filter (is_holder c n) b.hands) b.free
 
 -- whether the frame lies in the chunks being withdrawn, with so many frames in a chunk
-abbrev pub is_inside : ℕ → Book → ℕ → Bool
-is_inside per b f = option_map_or (λ (a : Area). nat_le (a.from * per) f) b.area false
+abbrev pub is_in_area : ℕ → Book → ℕ → Bool
+is_in_area per b f = option_map_or (λ (a : Area). nat_le (a.from * per) f) b.area false
 
 -- whether the call is withdrawing the chunks
 abbrev pub is_owner : Book → ℕ → ℕ → Bool
@@ -66,7 +59,7 @@ use_frame f b = record b { free = without f b.free; hands = filter (λ (x : Hand
 
 -- a frame is given back
 abbrev pub give : ℕ → ℕ → Book → Book
-give per f b = let used = use_frame f b in if is_inside per b f then record used { withdrawn = b.withdrawn ++ f ∷ [] } else record used { free = used.free ++ f ∷ [] }
+give per f b = let used = use_frame f b in if is_in_area per b f then record used { withdrawn = b.withdrawn ++ f ∷ [] } else record used { free = used.free ++ f ∷ [] }
 
 -- a call that was refused behind its frame gives back the frame that it took, or would have taken
 abbrev pub give_next : ℕ → ℕ → ℕ → Book → Book

@@ -28,7 +28,7 @@ use Rattle.trail.specs.Book.{Book, book, next_frame, is_in}
 use Rattle.trail.specs.Dirt.{dirty, log_end, pages_of}
 use Rattle.trail.specs.Order.{order}
 use Rattle.trail.specs.Watches.{Watch, watch_of}
-use Rattle.trail.specs.Words.{frames_of}
+use Rattle.trail.specs.Words.{frames_told}
 use Rattle.trail.specs.Calls.{calls_of, made, is_answered, first_made, before_call, open_fixes, newest_fix}
 use Rattle.trail.specs.Preceding.{MayPrecede, MayPrecedeNote}
 
@@ -92,7 +92,7 @@ written_pages (e ∷ made) = written_pages made ++ option_to_list (option_map (�
 
 -- whether the page's frame was skipped
 abbrev pub is_skipped : List Entry → List (ℕ × Word) → PageId → Bool
-is_skipped h skipped p = option_map_or (λ f. is_in f (frames_of skipped)) (home h p) false
+is_skipped h skipped p = option_map_or (λ f. is_in f (frames_told skipped)) (home h p) false
 
 -- the pages that a clean came to: the first of those that were dirty before it
 abbrev pub cleaned_first : List Entry → List Entry → List (ℕ × Word) → List PageId

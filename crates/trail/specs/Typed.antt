@@ -1,6 +1,6 @@
 -- Trails whose numbers fit the types of their fields.
 use Rattle.std.specs.Prelude.{ℕ, List, [], ◌∷◌, ◌≡◌, ◌+◌, ◌<◌, ◌^◌, length}
-use Rattle.page_ids.specs.Typed.{IsU32, IsU64, FitsId, IsWord, AreBytes, ArePages, AreFrames}
+use Rattle.page_ids.specs.Typed.{IsU32, IsU64, FitsId, IsWord, AreBytes, ArePages, AreFrameWords}
 use Rattle.page_ids.specs.declared.layout.BadPage.{BadPage}
 use Rattle.page_ids.specs.declared.layout.BadPage.TheVariants as bad
 use Rattle.trail.specs.declared.event.Call.{Call}
@@ -40,7 +40,7 @@ CauseFits (cause.PlacesSpent mark need) = IsU64 mark × IsU64 need
 CauseFits (cause.NoSuchPage pages) = IsU32 pages
 CauseFits (cause.HoldFull held) = IsU32 held
 CauseFits (cause.Resident frame) = IsU32 frame
-CauseFits (cause.AllFixed seen) = AreFrames seen
+CauseFits (cause.AllFixed seen) = AreFrameWords seen
 CauseFits (cause.RedoFault before after) = IsU64 before × IsU64 after
 CauseFits (cause.DiskFault before after) = IsU64 before × IsU64 after
 CauseFits (cause.BadPage why) = BadFits why
@@ -50,7 +50,7 @@ CauseFits cause.NoWatch = Unit {0}
 CauseFits cause.TooSmall = Unit {0}
 CauseFits (cause.TooLarge chunks max) = IsU32 chunks × IsU32 max
 CauseFits (cause.Withdrawing from) = IsU32 from
-CauseFits (cause.Undone seen) = AreFrames seen
+CauseFits (cause.Undone seen) = AreFrameWords seen
 CauseFits (cause.NoFrame frames) = IsU32 frames
 CauseFits (cause.Stale found) = IsWord found
 CauseFits (cause.OtherPage found) = FitsId found
@@ -63,7 +63,7 @@ KindFits (kind.Load p frame) = FitsId p × IsU32 frame
 KindFits (kind.Fix p frame clock now) = FitsId p × IsU32 frame × IsU64 clock × IsU64 now
 KindFits (kind.Create p frame start end now) = FitsId p × IsU32 frame × IsU64 start × IsU64 end × IsU64 now
 KindFits (kind.Put p at bytes start end) = FitsId p × IsU32 at × AreBytes bytes × IsU64 start × IsU64 end
-KindFits (kind.Evict p frame passed) = FitsId p × IsU32 frame × AreFrames passed
+KindFits (kind.Evict p frame passed) = FitsId p × IsU32 frame × AreFrameWords passed
 KindFits (kind.Write p lsn upto) = FitsId p × IsU64 lsn × IsU64 upto
 KindFits (kind.Move p from to) = FitsId p × IsU32 from × IsU32 to
 KindFits (kind.Withdraw from) = IsU32 from
@@ -71,7 +71,7 @@ KindFits (kind.Undo from) = IsU32 from
 KindFits (kind.Shrink chunks) = IsU32 chunks
 KindFits (kind.Grow chunks) = IsU32 chunks
 KindFits (kind.Resize bytes chunks) = IsU64 bytes × IsU32 chunks
-KindFits (kind.Clean written skipped) = IsU32 written × AreFrames skipped
+KindFits (kind.Clean written skipped) = IsU32 written × AreFrameWords skipped
 KindFits (kind.Check lsn) = IsU64 lsn
 KindFits (kind.WatchSet p) = FitsId p
 KindFits (kind.WatchAt p frame) = FitsId p × IsU32 frame
@@ -95,14 +95,14 @@ AllFit [] = Unit {0}
 AllFit (e ∷ es) = EventFits e × AllFit es
 
 -- There is an entry, and the first one has the place behind `first`.
-abbrev pub Opens : ℕ → List Event → Type 0
-Opens first [] = ⊥
-Opens first (event.Entry e ∷ es) = e.place ≡ first + 1
-Opens first (event.Receipt r ∷ es) = Opens first es
+abbrev pub BeginsBehind : ℕ → List Event → Type 0
+BeginsBehind first [] = ⊥
+BeginsBehind first (event.Entry e ∷ es) = e.place ≡ first + 1
+BeginsBehind first (event.Receipt r ∷ es) = BeginsBehind first es
 
 -- a trail of an instance whose numbers fit their types, and whose first place its entries tell
 pub record TrailFits (instance : ℕ) (t : Events) : Type 0 where
   pub numbered : instance < 2 ^ 16
   pub counted : IsU64 (length t.events)
   pub typed : AllFit t.events
-  pub opens : Opens t.first t.events
+  pub opens : BeginsBehind t.first t.events

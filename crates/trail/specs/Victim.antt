@@ -18,7 +18,7 @@ use Rattle.trail.specs.History.{home}
 use Rattle.trail.specs.Dirt.{is_dirty}
 use Rattle.trail.specs.Order.{order}
 use Rattle.trail.specs.Book.{book, is_in, frames_there}
-use Rattle.trail.specs.Words.{frames_of, AreFixedWords}
+use Rattle.trail.specs.Words.{frames_told, AreFixedWords}
 
 -- the resident pages from the LRU tail towards the head
 abbrev pub from_the_tail : Config → List Entry → List PageId
@@ -39,8 +39,8 @@ is_home_of h pages f = list_any (λ q. option_map_or (λ g. g == f) (home h q) f
 
 -- the words are those of just these pages, each found on its page's home
 pub record ArePassed (h : List Entry) (pages : List PageId) (passed : List (ℕ × Word)) : Type 0 where
-  pub each : AllByRecursion (λ q. IsSomeAnd (home h q) (λ f. IsTrue (is_in f (frames_of passed)))) pages
-  pub only : AllByRecursion (λ f. IsTrue (is_home_of h pages f)) (frames_of passed)
+  pub each : AllByRecursion (λ q. IsSomeAnd (home h q) (λ f. IsTrue (is_in f (frames_told passed)))) pages
+  pub only : AllByRecursion (λ f. IsTrue (is_home_of h pages f)) (frames_told passed)
   pub fixed : AreFixedWords h passed
 
 -- the history before the call's own write of the page, where that is the newest entry
@@ -76,5 +76,5 @@ pub record AreJust (frames told : List ℕ) : Type 0 where
 pub record AreAllFixed (c : Config) (h : List Entry) (p : PageId) (seen : List (ℕ × Word)) : Type 0 where
   pub absent : home h p ≡ None
   pub none_free : (book c h).free ≡ []
-  pub frames : AreJust (frames_there c.frames (book c h)) (frames_of seen)
+  pub frames : AreJust (frames_there c.frames (book c h)) (frames_told seen)
   pub fixed : AreFixedWords h seen

@@ -12,7 +12,8 @@ use Rattle.trail.specs.declared.event.Event.{Event}
 use Rattle.trail.specs.declared.event.Event.TheVariants as event
 use Rattle.trail.specs.Trails.{Opening, own}
 use Rattle.trail.specs.History.{home}
-use Rattle.trail.specs.Book.{Area, Book, book, front, is_in, is_inside, is_owner, area_frames}
+use Rattle.page_ids.specs.FrameLists.{front}
+use Rattle.trail.specs.Book.{Area, Book, book, is_in, is_in_area, is_owner, area_frames}
 use Rattle.trail.specs.Calls.{is_answered}
 
 -- a withdrawal begins where none is open, and leaves a chunk at least
@@ -25,7 +26,7 @@ pub record IsWithdraw (b : Book) (from : ℕ) : Type 0 where
 pub record IsMove (config : Config) (h : List Entry) (c n : ℕ) (p : PageId) (from to : ℕ) : Type 0 where
   pub owner : IsTrue (is_owner (book config h) c n)
   pub housed : home h p ≡ Some from
-  pub inside : IsTrue (is_inside config.frames (book config h) from)
+  pub inside : IsTrue (is_in_area config.frames (book config h) from)
   pub free : front (book config h).free ≡ Some to
 
 -- all frames of the area are withdrawn, and its chunks go

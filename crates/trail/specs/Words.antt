@@ -16,8 +16,8 @@ use Rattle.trail.specs.declared.event.Kind.TheVariants as kind
 use Rattle.trail.specs.declared.event.Entry.{Entry}
 use Rattle.trail.specs.History.{change, tenant}
 
-abbrev pub frames_of : List (ℕ × Word) → List ℕ
-frames_of words = map (λ (x : ℕ × Word). x.0) words
+abbrev pub frames_told : List (ℕ × Word) → List ℕ
+frames_told words = map (λ (x : ℕ × Word). x.0) words
 
 -- the word has a page, and a fix
 pub record IsOfFixed (w : Word) : Type 0 where

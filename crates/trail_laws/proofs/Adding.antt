@@ -11,8 +11,8 @@ use Rattle.trail.specs.Kinds.{Placing, departure_in}
 use Rattle.trail.specs.Calls.{newest_fix, open_fixes}
 use Rattle.trail.specs.Legal.{IsNumbered}
 use Rattle.trail.specs.Promises.{IsPromised}
-use Rattle.trail_laws.specs.Accounts.{IsAccount, entries_of, place_of, with_event}
-use Rattle.trail_laws.specs.SoFar.{ArePromisedSoFar, IsFree, IsLawfulOf, IsLawfulSoFar}
+use Rattle.trail_laws.specs.Accounts.{IsAccount, entries_of, event_place, with_event}
+use Rattle.trail_laws.specs.SoFar.{ArePromisedSoFar, IsFixedByNone, IsLawfulOf, IsLawfulSoFar}
 use Rattle.trail_laws.specs.Adding.{IsCalling, MayAdd, MayNote, next_entry, next_note}
 use Rattle.trail_laws.proofs.Places.{all_below, each_entry, each_note, earlier_all, earlier_with, falling_up, still_on, up_to_mark, with_each}
 use Rattle.trail_laws.proofs.Calling.{calls_below, in_turn, numbered_by}
@@ -32,7 +32,7 @@ pub entry_added_to : (o : Opening) (pages : ℕ → ℕ) (h : List Entry) (accou
 entry_added_to o pages h accounts c n k so number_is may =
     let e = next_entry o.first h c n k in
     let x : Event = event.Entry e in
-    let below : (d : ℕ) → AllByRecursion (λ y. place_of y < e.place) (accounts d) = λ d. all_below (mark o.first h) e.place (accounts d) (omega arith) (so.places.each d).falling in
+    let below : (d : ℕ) → AllByRecursion (λ y. event_place y < e.place) (accounts d) = λ d. all_below (mark o.first h) e.place (accounts d) (omega arith) (so.places.each d).falling in
     let account : ℕ → List Event → Type 0 = λ d mine. IsAccount o.first (e ∷ h) d mine in
     let its : IsLawfulOf o pages h (accounts c) x = record {
       legal = record { place = refl; number = number_is; together = may.together; before = may.before; kind = may.kind };
@@ -65,7 +65,7 @@ entry_added_to o pages h accounts c n k so number_is may =
       );
     }
   where
-    free : {with : ℕ → List Event} (left : Option Placing) → ((d : ℕ) → with d ≡ accounts d) → IfSome left (λ d. IsFree accounts d.page) → IfSome left (λ d. IsFree with d.page)
+    free : {with : ℕ → List Event} (left : Option Placing) → ((d : ℕ) → with d ≡ accounts d) → IfSome left (λ d. IsFixedByNone accounts d.page) → IfSome left (λ d. IsFixedByNone with d.page)
     free None same is = tt
     free (Some d) same is = λ c. ap (λ l. newest_fix (open_fixes l) d.page) (same c) ∙ is c
 

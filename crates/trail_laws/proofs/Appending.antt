@@ -30,11 +30,12 @@ use Rattle.trail.specs.Causes.{IsCausedKind}
 use Rattle.trail.specs.Victim.{IsSought, IsVictimKind, IsVictimOf, before_write}
 use Rattle.trail.specs.Withdrawal.{IsGrow, IsMove, IsShrink, IsUndo, IsWithdraw, IsWithdrawalKind}
 use Rattle.trail.specs.Promises.{IsOfSpaces}
-use Rattle.trail.proofs.DirtyPages.{is_cleaned, same_self}
+use Rattle.page_ids.proofs.Basics.{same_self}
+use Rattle.trail.proofs.DirtyPages.{is_cleaned}
 use Rattle.trail.proofs.LookUps.{all_came, none_passed}
 use Rattle.trail_laws.specs.Accounts.{entries_of}
-use Rattle.trail_laws.specs.SoFar.{IsFree, TellSpaces}
-use Rattle.trail_laws.specs.Adding.{HasBegun, IsAsked, IsCalling, IsResizing, IsUnderWay, MayAdd, MayRefuse}
+use Rattle.trail_laws.specs.SoFar.{IsFixedByNone, TellSpaces}
+use Rattle.trail_laws.specs.Adding.{HasBegun, MayAsk, IsCalling, IsResizing, IsUnderWay, MayAdd, MayRefuse}
 use Rattle.trail_laws.proofs.Calling.{under_way}
 use Rattle.trail_laws.proofs.Asking.{began, granted, is_held, is_watched, may_watch, none_due_create, none_due_resize, not_full}
 
@@ -45,7 +46,7 @@ together_by first h base (e ∷ pending) is = inl (ap (λ l. mark first l + 1) i
 
 -- an entry of a call whose entries so far are these
 by_parts : (o : Opening) (pages : ℕ → ℕ) (h : List Entry) (accounts : ℕ → List Event) (c n : ℕ) (pending : List Entry) (k : Kind) → IsUnderWay (accounts c) n pending → IsTogether (mark o.first h + 1) pending
-    → MayPrecede h pending k → IsLegalKind o h (accounts c) c n k → IfSome (departure_in k) (λ d. IsFree accounts d.page) → IfSome (write_in k) (λ w. IsCoveredWrite h w.page w.lsn w.upto)
+    → MayPrecede h pending k → IsLegalKind o h (accounts c) c n k → IfSome (departure_in k) (λ d. IsFixedByNone accounts d.page) → IfSome (write_in k) (λ w. IsCoveredWrite h w.page w.lsn w.upto)
     → ((past : List Event) → TellSpaces pages past → IsCausedKind o past h (accounts c) c n k) → IsVictimKind o.config h c n k → IsWithdrawalKind o.config h c n k → IsOfSpaces pages k → MayAdd o pages h accounts c n k
 by_parts o pages h accounts c n pending k calling together before legal still covered causes victim withdrawal spaces =
     let T : List Entry → Type 0 = λ l. IsTogether (mark o.first h + 1) l in
@@ -70,14 +71,14 @@ loads o pages h base accounts c n pending p f begun legal =
 
 -- a fix of a page that is in the frame, at first or behind the entries with which the frame was had
 pub fixes : (o : Opening) (pages : ℕ → ℕ) (h base : List Entry) (accounts : ℕ → List Event) (c n : ℕ) (pending : List Entry) (p : PageId) (f clock now : ℕ) → AreNumbered o.first h → HasBegun h base (accounts c) n pending
-    → MayPrecede h pending (kind.Fix p f clock now) → IsFix h p f clock → IsAsked o pages base c n (call.Fix p now) → length (open_fixes (accounts c)) < MOST_FIXES → MayAdd o pages h accounts c n (kind.Fix p f clock now)
+    → MayPrecede h pending (kind.Fix p f clock now) → IsFix h p f clock → MayAsk o pages base c n (call.Fix p now) → length (open_fixes (accounts c)) < MOST_FIXES → MayAdd o pages h accounts c n (kind.Fix p f clock now)
 fixes o pages h base accounts c n pending p f clock now numbered begun before legal ask few =
     by_parts o pages h accounts c n pending (kind.Fix p f clock now) (under_way (accounts c) n pending begun.calling) (together_by o.first h base pending begun.grown) before legal tt tt
     (granted o pages h base (accounts c) c n (call.Fix p now) (began o.first h base (accounts c) n pending numbered begun) ask (not_full (accounts c) few)) tt tt (record { inside = ask.inside; told = tt })
 
 -- a blank page in the frame that the call takes
 pub creates : (o : Opening) (pages : ℕ → ℕ) (h base : List Entry) (accounts : ℕ → List Event) (c n : ℕ) (pending : List Entry) (p : PageId) (f start end now : ℕ) → AreNumbered o.first h → HasBegun h base (accounts c) n pending
-    → GotFrame p (kinds pending) → IsCreate o h c n p f start end → IsAsked o pages base c n (call.Create p now) → length (open_fixes (accounts c)) < MOST_FIXES → MayAdd o pages h accounts c n (kind.Create p f start end now)
+    → GotFrame p (kinds pending) → IsCreate o h c n p f start end → MayAsk o pages base c n (call.Create p now) → length (open_fixes (accounts c)) < MOST_FIXES → MayAdd o pages h accounts c n (kind.Create p f start end now)
 creates o pages h base accounts c n pending p f start end now numbered begun got legal ask few =
     by_parts o pages h accounts c n pending (kind.Create p f start end now) (under_way (accounts c) n pending begun.calling) (together_by o.first h base pending begun.grown) got legal tt tt
     (granted o pages h base (accounts c) c n (call.Create p now) (began o.first h base (accounts c) n pending numbered begun) ask (none_due_create o h (accounts c) c n p now few legal.absent)) tt tt (record { inside = ask.inside; told = tt })
@@ -100,25 +101,25 @@ here : (first : ℕ) (h : List Entry) (mine : List Event) (n : ℕ) → AreNumbe
 here first h mine n numbered calling = began first h h mine n [] numbered (begins h mine n calling)
 
 pub puts : (o : Opening) (pages : ℕ → ℕ) (h : List Entry) (accounts : ℕ → List Event) (c n : ℕ) (p : PageId) (at : ℕ) (bytes : List ℕ) (start end : ℕ) → AreNumbered o.first h → IsCalling (accounts c) n []
-    → IsPut o h (accounts c) p at bytes start end → IsAsked o pages h c n (call.Put p at bytes) → MayAdd o pages h accounts c n (kind.Put p at bytes start end)
+    → IsPut o h (accounts c) p at bytes start end → MayAsk o pages h c n (call.Put p at bytes) → MayAdd o pages h accounts c n (kind.Put p at bytes start end)
 puts o pages h accounts c n p at bytes start end numbered calling legal ask =
     alone o pages h accounts c n (kind.Put p at bytes start end) calling refl legal refl refl
     (granted o pages h h (accounts c) c n (call.Put p at bytes) (here o.first h (accounts c) n numbered calling) ask (is_held (accounts c) p legal.held)) tt tt (record { inside = tt; told = tt })
 
 pub checks : (o : Opening) (pages : ℕ → ℕ) (h : List Entry) (accounts : ℕ → List Event) (c n lsn : ℕ) → AreNumbered o.first h → IsCalling (accounts c) n []
-    → IsCheckpoint (dirty h) (log_end h) lsn → IsAsked o pages h c n call.Check → MayAdd o pages h accounts c n (kind.Check lsn)
+    → IsCheckpoint (dirty h) (log_end h) lsn → MayAsk o pages h c n call.Check → MayAdd o pages h accounts c n (kind.Check lsn)
 checks o pages h accounts c n lsn numbered calling legal ask =
     alone o pages h accounts c n (kind.Check lsn) calling refl legal refl refl
     (granted o pages h h (accounts c) c n call.Check (here o.first h (accounts c) n numbered calling) ask refl) tt tt (record { inside = tt; told = tt })
 
 pub sets_watch : (o : Opening) (pages : ℕ → ℕ) (h : List Entry) (accounts : ℕ → List Event) (c n : ℕ) (p : PageId) → AreNumbered o.first h → IsCalling (accounts c) n []
-    → home h p ≡ None → other_watches h c p < MOST_WATCHES → IsAsked o pages h c n (call.Watch p) → MayAdd o pages h accounts c n (kind.WatchSet p)
+    → home h p ≡ None → other_watches h c p < MOST_WATCHES → MayAsk o pages h c n (call.Watch p) → MayAdd o pages h accounts c n (kind.WatchSet p)
 sets_watch o pages h accounts c n p numbered calling absent few ask =
     alone o pages h accounts c n (kind.WatchSet p) calling refl absent refl refl
     (granted o pages h h (accounts c) c n (call.Watch p) (here o.first h (accounts c) n numbered calling) ask (may_watch h c p (λ none. few))) tt tt (record { inside = ask.inside; told = tt })
 
 pub finds_page : (o : Opening) (pages : ℕ → ℕ) (h : List Entry) (accounts : ℕ → List Event) (c n : ℕ) (p : PageId) (f : ℕ) → AreNumbered o.first h → IsCalling (accounts c) n []
-    → home h p ≡ Some f → IsAsked o pages h c n (call.Watch p) → MayAdd o pages h accounts c n (kind.WatchAt p f)
+    → home h p ≡ Some f → MayAsk o pages h c n (call.Watch p) → MayAdd o pages h accounts c n (kind.WatchAt p f)
 finds_page o pages h accounts c n p f numbered calling resident ask =
     alone o pages h accounts c n (kind.WatchAt p f) calling refl resident refl refl
     (granted o pages h h (accounts c) c n (call.Watch p) (here o.first h (accounts c) n numbered calling) ask (may_watch h c p (λ none. absurd (both none)))) tt tt (record { inside = ask.inside; told = tt })
@@ -131,19 +132,19 @@ watching None test x is = absurd (cc)
 watching (Some w) test x is = refl
 
 pub has_occurred : (o : Opening) (pages : ℕ → ℕ) (h : List Entry) (accounts : ℕ → List Event) (c n : ℕ) (p : PageId) (arrived : Bool) → AreNumbered o.first h → IsCalling (accounts c) n []
-    → option_map (λ (w : Watch). w.occurred) (watch_of h c p) ≡ Some arrived → IsAsked o pages h c n (call.Occurred p) → MayAdd o pages h accounts c n (kind.Occurred p arrived)
+    → option_map (λ (w : Watch). w.occurred) (watch_of h c p) ≡ Some arrived → MayAsk o pages h c n (call.Occurred p) → MayAdd o pages h accounts c n (kind.Occurred p arrived)
 has_occurred o pages h accounts c n p arrived numbered calling occurred ask =
     alone o pages h accounts c n (kind.Occurred p arrived) calling refl occurred refl refl
     (granted o pages h h (accounts c) c n (call.Occurred p) (here o.first h (accounts c) n numbered calling) ask (is_watched h c p (watching (watch_of h c p) (λ (w : Watch). w.occurred) arrived occurred))) tt tt (record { inside = tt; told = tt })
 
 pub gives_watch_up : (o : Opening) (pages : ℕ → ℕ) (h : List Entry) (accounts : ℕ → List Event) (c n : ℕ) (p : PageId) → AreNumbered o.first h → IsCalling (accounts c) n []
-    → IsSome (watch_of h c p) → IsAsked o pages h c n (call.Unwatch p) → MayAdd o pages h accounts c n (kind.Unwatch p)
+    → IsSome (watch_of h c p) → MayAsk o pages h c n (call.Unwatch p) → MayAdd o pages h accounts c n (kind.Unwatch p)
 gives_watch_up o pages h accounts c n p numbered calling watched ask =
     alone o pages h accounts c n (kind.Unwatch p) calling refl watched refl refl
     (granted o pages h h (accounts c) c n (call.Unwatch p) (here o.first h (accounts c) n numbered calling) ask (is_watched h c p watched)) tt tt (record { inside = tt; told = tt })
 
 pub dumps : (o : Opening) (pages : ℕ → ℕ) (h : List Entry) (accounts : ℕ → List Event) (c n pct : ℕ) (ids : List PageId) → AreNumbered o.first h → IsCalling (accounts c) n []
-    → ids ≡ dumped o.config h pct → IsAsked o pages h c n (call.Dump pct) → MayAdd o pages h accounts c n (kind.Dump pct ids)
+    → ids ≡ dumped o.config h pct → MayAsk o pages h c n (call.Dump pct) → MayAdd o pages h accounts c n (kind.Dump pct ids)
 dumps o pages h accounts c n pct ids numbered calling first ask =
     alone o pages h accounts c n (kind.Dump pct ids) calling refl first refl refl
     (granted o pages h h (accounts c) c n (call.Dump pct) (here o.first h (accounts c) n numbered calling) ask refl) tt tt (record { inside = tt; told = tt })
@@ -156,13 +157,13 @@ writes o pages h accounts c n pending p lsn upto calling together covered =
 
 -- a victim that nobody has fixed leaves its frame
 pub evicts : (o : Opening) (pages : ℕ → ℕ) (h : List Entry) (accounts : ℕ → List Event) (c n : ℕ) (pending : List Entry) (p : PageId) (f : ℕ) (passed : List (ℕ × Word)) → IsUnderWay (accounts c) n pending
-    → IsTogether (mark o.first h + 1) pending → IsFree accounts p → IsVictimOf o.config h c n p f passed → MayAdd o pages h accounts c n (kind.Evict p f passed)
+    → IsTogether (mark o.first h + 1) pending → IsFixedByNone accounts p → IsVictimOf o.config h c n p f passed → MayAdd o pages h accounts c n (kind.Evict p f passed)
 evicts o pages h accounts c n pending p f passed calling together free victim =
     by_parts o pages h accounts c n pending (kind.Evict p f passed) calling together tt tt free tt (λ past told. tt) victim tt (record { inside = tt; told = tt })
 
 -- A clean is answered behind its writes, which are of the pages that were dirty first; none was skipped.
 pub cleans : (o : Opening) (pages : ℕ → ℕ) (h base : List Entry) (accounts : ℕ → List Event) (c n : ℕ) (pending : List Entry) (written : ℕ) (skipped : List (ℕ × Word)) → AreNumbered o.first h → HasBegun h base (accounts c) n pending
-    → AreWrites (kinds pending) → IsClean h pending written skipped → IsAsked o pages base c n (call.Clean written) → MayAdd o pages h accounts c n (kind.Clean written skipped)
+    → AreWrites (kinds pending) → IsClean h pending written skipped → MayAsk o pages base c n (call.Clean written) → MayAdd o pages h accounts c n (kind.Clean written skipped)
 cleans o pages h base accounts c n pending written skipped numbered begun all legal ask =
     let C : List Entry → Type 0 = λ l. IsClean h l written skipped in
     by_parts o pages h accounts c n pending (kind.Clean written skipped) (under_way (accounts c) n pending begun.calling) (together_by o.first h base pending begun.grown) all (subst C (sym begun.calling.made_are) legal) tt tt
@@ -197,13 +198,13 @@ resizing_together place [] resize = tt
 resizing_together place (e ∷ pending) resize = inr resize
 
 in_resize : (o : Opening) (pages : ℕ → ℕ) (h : List Entry) (accounts : ℕ → List Event) (c n : ℕ) (pending : List Entry) (k : Kind) → IsResizing (accounts c) n pending → MayPrecede h pending k → IsLegalKind o h (accounts c) c n k
-    → IfSome (departure_in k) (λ d. IsFree accounts d.page) → write_in k ≡ None → ((past : List Event) → TellSpaces pages past → IsCausedKind o past h (accounts c) c n k) → IsVictimKind o.config h c n k → IsWithdrawalKind o.config h c n k
+    → IfSome (departure_in k) (λ d. IsFixedByNone accounts d.page) → write_in k ≡ None → ((past : List Event) → TellSpaces pages past → IsCausedKind o past h (accounts c) c n k) → IsVictimKind o.config h c n k → IsWithdrawalKind o.config h c n k
     → IsOfSpaces pages k → MayAdd o pages h accounts c n k
 in_resize o pages h accounts c n pending k resizing before legal still unwritten causes victim withdrawal spaces =
     by_parts o pages h accounts c n pending k resizing.under_way (resizing_together (mark o.first h + 1) pending resizing.begun) before legal still (none_of _ (write_in k) unwritten) causes victim withdrawal spaces
 
 pub moves : (o : Opening) (pages : ℕ → ℕ) (h : List Entry) (accounts : ℕ → List Event) (c n : ℕ) (pending : List Entry) (p : PageId) (from to : ℕ) → IsResizing (accounts c) n pending
-    → IsFree accounts p → IsMove o.config h c n p from to → MayAdd o pages h accounts c n (kind.Move p from to)
+    → IsFixedByNone accounts p → IsMove o.config h c n p from to → MayAdd o pages h accounts c n (kind.Move p from to)
 moves o pages h accounts c n pending p from to resizing free move =
     in_resize o pages h accounts c n pending (kind.Move p from to) resizing tt tt free refl (λ past told. tt) tt move (record { inside = tt; told = tt })
 
@@ -219,7 +220,7 @@ undoes o pages h accounts c n pending from resizing undo =
 
 -- A resize is answered, at first or behind its steps; where it began its places were left.
 pub resizes : (o : Opening) (pages : ℕ → ℕ) (h base : List Entry) (accounts : ℕ → List Event) (c n : ℕ) (pending : List Entry) (bytes chunks : ℕ) → IsUnderWay (accounts c) n pending → IsTogether (mark o.first h + 1) pending
-    → before_call pending h ≡ base → AreOfResize pending → IsResized o.config (book o.config h) bytes chunks → IsAsked o pages base c n (call.Resize bytes 0) → 1 ≤ bytes → chunks_for o.config bytes ≤ o.config.max
+    → before_call pending h ≡ base → AreOfResize pending → IsResized o.config (book o.config h) bytes chunks → MayAsk o pages base c n (call.Resize bytes 0) → 1 ≤ bytes → chunks_for o.config bytes ≤ o.config.max
     → others_area (book o.config h) c n ≡ None → MayAdd o pages h accounts c n (kind.Resize bytes chunks)
 resizes o pages h base accounts c n pending bytes chunks calling together at steps legal ask some fits none =
     by_parts o pages h accounts c n pending (kind.Resize bytes chunks) calling together steps legal tt tt

@@ -25,7 +25,7 @@ use Rattle.trail.specs.Causes.{IsGranted, IsReached, due, frame_cause, full_caus
 use Rattle.trail.proofs.LookUps.{before_made}
 use Rattle.trail.proofs.Judging.{inside_of}
 use Rattle.trail_laws.specs.SoFar.{TellSpaces}
-use Rattle.trail_laws.specs.Adding.{HasBegun, IsAsked}
+use Rattle.trail_laws.specs.Adding.{HasBegun, MayAsk}
 
 -- where the call began
 pub began : (first : ℕ) (h base : List Entry) (mine : List Event) (n : ℕ) (pending : List Entry) → AreNumbered first h → HasBegun h base mine n pending → before_call (made n mine) h ≡ base
@@ -60,7 +60,7 @@ has_places first config h c n asked need is room =
     let least = limit_least c asked in
     subst P (sym is) (omega (arith, room, least))
 
-pub reached : (o : Opening) (pages : ℕ → ℕ) (past : List Event) (h base made : List Entry) (c n : ℕ) (asked : Call) → before_call made h ≡ base → IsAsked o pages base c n asked → TellSpaces pages past → IsReached o past h made c n asked
+pub reached : (o : Opening) (pages : ℕ → ℕ) (past : List Event) (h base made : List Entry) (c n : ℕ) (asked : Call) → before_call made h ≡ base → MayAsk o pages base c n asked → TellSpaces pages past → IsReached o past h made c n asked
 reached o pages past h base made c n asked is ask told =
     let P : List Entry → Type 0 = λ l. HasPlaces o.first o.config l c n asked in
     record { places = subst P (sym is) ask.places; inside = each (sought_page asked) ask.inside }
@@ -70,7 +70,7 @@ reached o pages past h base made c n asked is ask told =
     each (Some p) inside = inside_of pages past p (told p.space) inside
 
 -- A call is granted where no exact cause is due.
-pub granted : (o : Opening) (pages : ℕ → ℕ) (h base : List Entry) (mine : List Event) (c n : ℕ) (asked : Call) → before_call (made n mine) h ≡ base → IsAsked o pages base c n asked → due o h mine c n asked ≡ None
+pub granted : (o : Opening) (pages : ℕ → ℕ) (h base : List Entry) (mine : List Event) (c n : ℕ) (asked : Call) → before_call (made n mine) h ≡ base → MayAsk o pages base c n asked → due o h mine c n asked ≡ None
     → (past : List Event) → TellSpaces pages past → IsGranted o past h mine c n asked
 granted o pages h base mine c n asked is ask none past told = record { reached = reached o pages past h base (made n mine) c n asked is ask told; none_due = none }
 

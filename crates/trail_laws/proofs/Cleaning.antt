@@ -10,7 +10,8 @@ use Rattle.trail.specs.Dirt.{dirt_of, dirty, pages_of}
 use Rattle.trail.specs.Preceding.{AreWrites, kinds}
 use Rattle.trail.specs.Covered.{IsCoveredWrite}
 use Rattle.trail.specs.Legal.{written_pages}
-use Rattle.trail.proofs.DirtyPages.{front_leaves, same_self}
+use Rattle.page_ids.proofs.Basics.{same_self}
+use Rattle.trail.proofs.DirtyPages.{front_leaves}
 use Rattle.trail_laws.specs.Adding.{AreOldest, IsOldest}
 
 -- a list from a place on

@@ -1,5 +1,5 @@
 -- The events of a closing flush are writes and its answer, in accounts that are lawful.
-use Rattle.std.proofs.Common.{◌≡◌, ℕ, Bool, true, false, cond, List, [], ◌∷◌, ◌&&◌, ◌||◌, inl, inr, Option, Some, None, IsSome, refl, ap, subst, eq-eqb, nat_eq, arith}
+use Rattle.std.proofs.Common.{◌≡◌, ℕ, Bool, true, false, cond, List, [], ◌∷◌, ◌&&◌, ◌||◌, inl, inr, Option, Some, None, IsSome, refl, sym, ◌∙◌, ap, subst, eq-eqb, nat_eq, arith}
 use Rattle.std.specs.Prelude.{is_some}
 use Rattle.std.proofs.lemmas.Bool.Decides.{nat_tests}
 use Rattle.std.specs.List.{AllByRecursion, list_any}
@@ -81,6 +81,9 @@ or_rest : (a b : Bool) → (a || b) ≡ false → b ≡ false
 or_rest true b f = absurd (cc)
 or_rest false b f = f
 
+differ : (m n : ℕ) → nat_eq m n ≡ false → m ≡ n → ⊥
+differ m n f same = let t : nat_eq m n ≡ true = eq-eqb m n same in absurd (cc)
+
 some_true : {A : Type 0} (o : Option A) → IsSome o → is_some o ≡ true
 some_true None some = some
 some_true (Some x) some = refl
@@ -92,13 +95,10 @@ writes_of n (event.Entry e ∷ mine) none writes =
     let rest = or_rest (nat_eq e.number n && kind_answers e.kind) (is_answered n mine) none in
     cases (nat_eq e.number n) refl (writes_of n mine rest) writes
   where
-    differ : nat_eq e.number n ≡ false → e.number ≡ n → ⊥
-    differ f same = let t : nat_eq e.number n ≡ true = eq-eqb e.number n same in absurd (cc)
-
     cases : (b : Bool) → nat_eq e.number n ≡ b → (AreWrites (kinds (made n mine)) → AllByRecursion (OfClean n) mine) → AreWrites (kinds (cond b (e ∷ made n mine) (made n mine)))
         → AllByRecursion (OfClean n) (event.Entry e ∷ mine)
     cases true t next all = (λ is. ap (λ (b : Bool). b || ends_clean e.kind) (some_true (write_in e.kind) all.0), next all.1)
-    cases false f next all = (λ is. absurd (differ f is), next all)
+    cases false f next all = (λ is. absurd (differ e.number n f is), next all)
 writes_of n (event.Receipt r ∷ mine) none writes =
     let rest = or_rest (nat_eq r.number n && true) (is_answered n mine) none in
     (λ is. absurd (answers is), writes_of n mine rest writes)
@@ -121,49 +121,33 @@ closed_answered n (e ∷ mine) any = cases (nat_eq (number_of e) n) (closes e) r
     cases true false f any next = or_right (is_answer e) (is_answered n mine) (next any)
     cases false b f any next = next any
 
+-- one event more: where it closes the call it is a clean's, and what stands before is writes
+closed_by : (n : ℕ) (x : Event) (mine : List Event) → IsNumbered mine (number_of x) → (closes x ≡ true → (is_of_clean x ≡ true) × AreWrites (kinds (made (number_of x) mine)))
+    → (list_any (λ e. nat_eq (number_of e) n && closes e) mine ≡ true → AllByRecursion (OfClean n) mine) → list_any (λ e. nat_eq (number_of e) n && closes e) (x ∷ mine) ≡ true → AllByRecursion (OfClean n) (x ∷ mine)
+closed_by n x mine numbered shuts next any = cases (nat_eq (number_of x) n) (closes x) refl refl any
+  where
+    unclosed : number_of x ≡ n → is_answered n mine ≡ false
+    unclosed is = let U : ℕ → Type 0 = λ m. is_answered m mine ≡ false in subst U is (unanswered_by mine (number_of x) numbered)
+
+    number_is : nat_eq (number_of x) n ≡ true → number_of x ≡ n
+    number_is t = grind (arith, nat_tests)
+
+    cases : (a b : Bool) → nat_eq (number_of x) n ≡ a → closes x ≡ b → ((a && b) || list_any (λ e. nat_eq (number_of e) n && closes e) mine) ≡ true → AllByRecursion (OfClean n) (x ∷ mine)
+    cases true true t closing any =
+        let W : ℕ → Type 0 = λ m. AreWrites (kinds (made m mine)) in
+        let writes = shuts closing in (λ is. writes.0, writes_of n mine (unclosed (number_is t)) (subst W (number_is t) writes.1))
+    cases true false t not_yet any = (λ is. let none : true ≡ false = sym (closed_answered n mine any) ∙ unclosed is in absurd (cc), next any)
+    cases false b f closing any = (λ is. absurd (differ (number_of x) n f is), next any)
+
 -- the call's answer closes it, and what stands before is writes
 pub flush_of : (o : Opening) (pages : ℕ → ℕ) (h : List Entry) (n : ℕ) (mine : List Event) → AreLawfulOf o pages h mine → list_any (λ e. nat_eq (number_of e) n && closes e) mine ≡ true → AllByRecursion (OfClean n) mine
 flush_of o pages h n [] laws any = tt
-flush_of o pages h n (event.Entry e ∷ mine) laws any = cases (nat_eq e.number n) (ends_clean e.kind) refl refl any (flush_of o pages h n mine laws.1)
-  where
-    number_is : nat_eq e.number n ≡ true → e.number ≡ n
-    number_is t = grind (arith, nat_tests)
-
-    differ : nat_eq e.number n ≡ false → e.number ≡ n → ⊥
-    differ f same = let t : nat_eq e.number n ≡ true = eq-eqb e.number n same in absurd (cc)
-
-    later : e.number ≡ n → is_answered n mine ≡ true → ⊥
-    later is answered = let U : ℕ → Type 0 = λ m. is_answered m mine ≡ false in let none : is_answered n mine ≡ false = subst U is (unanswered_by mine e.number laws.0.legal.number) in absurd (cc)
-
-    cases : (a b : Bool) → nat_eq e.number n ≡ a → ends_clean e.kind ≡ b → ((a && b) || list_any (λ x. nat_eq (number_of x) n && closes x) mine) ≡ true
-        → (list_any (λ x. nat_eq (number_of x) n && closes x) mine ≡ true → AllByRecursion (OfClean n) mine) → AllByRecursion (OfClean n) (event.Entry e ∷ mine)
-    cases true true t closing any next =
-        let W : ℕ → Type 0 = λ m. AreWrites (kinds (made m mine)) in
-        let U : ℕ → Type 0 = λ m. is_answered m mine ≡ false in (
-          λ is. or_right (is_some (write_in e.kind)) (ends_clean e.kind) closing,
-          writes_of n mine (subst U (number_is t) (unanswered_by mine e.number laws.0.legal.number)) (subst W (number_is t) ((ending_writes e.kind closing).1 (seen_by (event.Entry e) h) (made e.number mine) laws.0.legal.before)),
-        )
-    cases true false t not_yet any next = (λ is. absurd (later is (closed_answered n mine any)), next any)
-    cases false b f closing any next = (λ is. absurd (differ f is), next any)
-flush_of o pages h n (event.Receipt r ∷ mine) laws any = cases (nat_eq r.number n) (notes_clean r.note) refl refl any (flush_of o pages h n mine laws.1)
-  where
-    number_is : nat_eq r.number n ≡ true → r.number ≡ n
-    number_is t = grind (arith, nat_tests)
-
-    differ : nat_eq r.number n ≡ false → r.number ≡ n → ⊥
-    differ f same = let t : nat_eq r.number n ≡ true = eq-eqb r.number n same in absurd (cc)
-
-    later : r.number ≡ n → is_answered n mine ≡ true → ⊥
-    later is answered = let U : ℕ → Type 0 = λ m. is_answered m mine ≡ false in let none : is_answered n mine ≡ false = subst U is (unanswered_by mine r.number laws.0.legal.number) in absurd (cc)
-
-    cases : (a b : Bool) → nat_eq r.number n ≡ a → notes_clean r.note ≡ b → ((a && b) || list_any (λ x. nat_eq (number_of x) n && closes x) mine) ≡ true
-        → (list_any (λ x. nat_eq (number_of x) n && closes x) mine ≡ true → AllByRecursion (OfClean n) mine) → AllByRecursion (OfClean n) (event.Receipt r ∷ mine)
-    cases true true t closing any next =
-        let W : ℕ → Type 0 = λ m. AreWrites (kinds (made m mine)) in
-        let U : ℕ → Type 0 = λ m. is_answered m mine ≡ false in
-        (λ is. closing, writes_of n mine (subst U (number_is t) (unanswered_by mine r.number laws.0.legal.number)) (subst W (number_is t) (noting_writes (seen_by (event.Receipt r) h) (made r.number mine) r.note closing laws.0.legal.before)))
-    cases true false t not_yet any next = (λ is. absurd (later is (closed_answered n mine any)), next any)
-    cases false b f closing any next = (λ is. absurd (differ f is), next any)
+flush_of o pages h n (event.Entry e ∷ mine) laws any =
+    closed_by n (event.Entry e) mine laws.0.legal.number (λ closing. (or_right (is_some (write_in e.kind)) (ends_clean e.kind) closing, (ending_writes e.kind closing).1 (seen_by (event.Entry e) h) (made e.number mine) laws.0.legal.before))
+    (flush_of o pages h n mine laws.1) any
+flush_of o pages h n (event.Receipt r ∷ mine) laws any =
+    closed_by n (event.Receipt r) mine laws.0.legal.number (λ closing. (closing, noting_writes (seen_by (event.Receipt r) h) (made r.number mine) r.note closing laws.0.legal.before))
+    (flush_of o pages h n mine laws.1) any
 
 -- The events of the closing flush of a trail are a clean's.
 pub closing_clean : (o : Opening) (pages : ℕ → ℕ) (h : List Entry) (past : List Event) → AreLawfulOf o pages h (own 0 past) → AllByRecursion (λ e. is_of_flush (closing_number past) e ≡ true → is_of_clean e ≡ true) (own 0 past)

@@ -18,7 +18,7 @@ use Rattle.trail.specs.Laws.{IsLawfulTrail}
 use Rattle.trail.specs.Merging.{AreInOrder, HasOneEach, HavePlaces, IsMerged, IsPlaced, entries_told, told}
 use Rattle.trail.proofs.Merged.{entries_are, order_is, places_are}
 use Rattle.trail.proofs.Ranked.{all_to, all_turned}
-use Rattle.trail_laws.specs.Accounts.{AreFalling, AreInTurn, IsAccount}
+use Rattle.trail_laws.specs.Accounts.{PlacesFall, AreInTurn, IsAccount}
 use Rattle.trail_laws.specs.SoFar.{AreLawfulOf, AreTrueAlone, IsLawfulSoFar}
 use Rattle.trail_laws.specs.Ending.{AreCallers, AreDistinct, AreDone, IsTrailOf, gathered}
 use Rattle.trail_laws.proofs.Owning.{own_by, placed_falls}
@@ -92,7 +92,7 @@ same_receipts (x ∷ xs) (y ∷ ys) fx fy a b =
     ap (λ r. r ∷ xs) is ∙ ap (λ rs. y ∷ rs) (same_receipts xs ys fx.1 fy.1 (rest_in x y xs ys is fx.0 a.1) (rest_in y x ys xs (sym is) fy.0 b.1))
 
 -- The receipts of an account fall.
-places_to : (n : ℕ) (mine : List Event) → AreFalling n mine → AllByRecursion (λ (q : Receipt). q.place ≤ n) (receipts mine)
+places_to : (n : ℕ) (mine : List Event) → PlacesFall n mine → AllByRecursion (λ (q : Receipt). q.place ≤ n) (receipts mine)
 places_to n [] falling = tt
 places_to n (event.Entry e ∷ mine) falling = all_to (λ (q : Receipt). q.place ≤ e.place) (λ (q : Receipt). q.place ≤ n) (receipts mine) (λ q le. omega (arith, le, falling.0)) (places_to e.place mine falling.2)
 places_to n (event.Receipt r ∷ mine) falling = (falling.0, all_to (λ (q : Receipt). q.place ≤ r.place) (λ (q : Receipt). q.place ≤ n) (receipts mine) (λ q le. omega (arith, le, falling.0)) (places_to r.place mine falling.1))
@@ -114,7 +114,7 @@ less_or_same m n A le same = cases (nat_lt m n) refl
     cases true t = inl (lt_is t)
     cases false t = inr (same (eq_is t))
 
-account_falls : (n : ℕ) (mine : List Event) → AreFalling n mine → AreInTurn (receipts mine) → Fall (receipts mine)
+account_falls : (n : ℕ) (mine : List Event) → PlacesFall n mine → AreInTurn (receipts mine) → Fall (receipts mine)
 account_falls n [] falling turns = tt
 account_falls n (event.Entry e ∷ mine) falling turns = account_falls e.place mine falling.2 turns
 account_falls n (event.Receipt r ∷ mine) falling turns = (

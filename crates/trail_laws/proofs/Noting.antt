@@ -15,7 +15,7 @@ use Rattle.trail.specs.Trails.{AreNumbered, Opening}
 use Rattle.trail.specs.Calls.{newest_fix, open_fixes}
 use Rattle.trail.specs.Preceding.{MayPrecedeNote, MayPrecedeRefused}
 use Rattle.trail.specs.Legal.{IsFix, IsReadOf}
-use Rattle.trail.proofs.DirtyPages.{same_self}
+use Rattle.page_ids.proofs.Basics.{same_self}
 use Rattle.trail_laws.specs.Adding.{IsCalling, MayNote, MayRefuse}
 use Rattle.trail_laws.proofs.Asking.{began, granted, is_held, none_due_guess}
 use Rattle.trail_laws.proofs.Appending.{begins}

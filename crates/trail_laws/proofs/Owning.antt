@@ -7,7 +7,7 @@ use Rattle.trail.specs.declared.event.Event.{Event}
 use Rattle.trail.specs.declared.event.Event.TheVariants as event
 use Rattle.trail.specs.Trails.{caller_of, entries, mark, own, receipts}
 use Rattle.trail.specs.Merging.{IsPlaced}
-use Rattle.trail_laws.specs.Accounts.{AreFalling, IsAccount, entries_of, place_of}
+use Rattle.trail_laws.specs.Accounts.{PlacesFall, IsAccount, entries_of, event_place}
 use Rattle.trail_laws.specs.Ending.{IsTrailOf}
 use Rattle.trail_laws.proofs.Places.{all_below, falling_up}
 use Rattle.trail_laws.proofs.Tests.{number_is}
@@ -54,7 +54,7 @@ own_entries c (event.Entry e ∷ past) = cases (nat_eq e.caller c) (own_entries 
     cases false are = are
 own_entries c (event.Receipt r ∷ past) = own_by (λ l. entries l ≡ entries_of c (entries past)) c (event.Receipt r) past (λ is. own_entries c past) (λ other. own_entries c past)
 
-pub placed_falls : (first : ℕ) (past : List Event) → IsPlaced first past → AreFalling (mark first (entries past)) past
+pub placed_falls : (first : ℕ) (past : List Event) → IsPlaced first past → PlacesFall (mark first (entries past)) past
 placed_falls first [] placed = tt
 placed_falls first (event.Entry e ∷ past) placed =
     let rest = placed_falls first past placed.1 in
@@ -62,32 +62,32 @@ placed_falls first (event.Entry e ∷ past) placed =
 placed_falls first (event.Receipt r ∷ past) placed =
     (omega (arith, placed.0), falling_up (mark first (entries past)) r.place past (omega (arith, placed.0)) (placed_falls first past placed.1))
 
-own_falls : (n c : ℕ) (past : List Event) → AreFalling n past → AreFalling n (own c past)
+own_falls : (n c : ℕ) (past : List Event) → PlacesFall n past → PlacesFall n (own c past)
 own_falls n c [] falling = tt
 own_falls n c (event.Entry e ∷ past) falling =
-    own_by (AreFalling n) c (event.Entry e) past (λ is. (falling.0, all_own (λ d. place_of d < e.place) c past falling.1, own_falls e.place c past falling.2))
+    own_by (PlacesFall n) c (event.Entry e) past (λ is. (falling.0, all_own (λ d. event_place d < e.place) c past falling.1, own_falls e.place c past falling.2))
     (λ other. falling_up e.place n (own c past) falling.0 (own_falls e.place c past falling.2))
 own_falls n c (event.Receipt r ∷ past) falling =
-    own_by (AreFalling n) c (event.Receipt r) past (λ is. (falling.0, own_falls r.place c past falling.1)) (λ other. falling_up r.place n (own c past) falling.0 (own_falls r.place c past falling.1))
+    own_by (PlacesFall n) c (event.Receipt r) past (λ is. (falling.0, own_falls r.place c past falling.1)) (λ other. falling_up r.place n (own c past) falling.0 (own_falls r.place c past falling.1))
 
 -- Events whose places fall are known by their entries and their receipts.
-first_receipt : (n : ℕ) (mine : List Event) (r : Receipt) (rs : List Receipt) → AllByRecursion (λ d. place_of d < n) mine → receipts mine ≡ r ∷ rs → r.place < n
+first_receipt : (n : ℕ) (mine : List Event) (r : Receipt) (rs : List Receipt) → AllByRecursion (λ d. event_place d < n) mine → receipts mine ≡ r ∷ rs → r.place < n
 first_receipt n [] r rs below is = absurd (cc)
 first_receipt n (event.Entry e ∷ mine) r rs below is = first_receipt n mine r rs below.1 is
 first_receipt n (event.Receipt q ∷ mine) r rs below is = let same : q ≡ r = cc in let P : Receipt → Type 0 = λ x. x.place < n in subst P same below.0
 
-first_entry : (n : ℕ) (mine : List Event) (e : Entry) (es : List Entry) → AreFalling n mine → entries mine ≡ e ∷ es → e.place ≤ n
+first_entry : (n : ℕ) (mine : List Event) (e : Entry) (es : List Entry) → PlacesFall n mine → entries mine ≡ e ∷ es → e.place ≤ n
 first_entry n [] e es falling is = absurd (cc)
 first_entry n (event.Entry d ∷ mine) e es falling is = let same : d ≡ e = cc in let P : Entry → Type 0 = λ x. x.place ≤ n in subst P same falling.0
 first_entry n (event.Receipt r ∷ mine) e es falling is = let le = first_entry r.place mine e es falling.1 is in omega (arith, le, falling.0)
 
-apart : (m n : ℕ) (e : Entry) (xs : List Event) (r : Receipt) (ys : List Event) → AreFalling m (event.Entry e ∷ xs) → AreFalling n (event.Receipt r ∷ ys) → e ∷ entries xs ≡ entries ys → receipts xs ≡ r ∷ receipts ys → ⊥
+apart : (m n : ℕ) (e : Entry) (xs : List Event) (r : Receipt) (ys : List Event) → PlacesFall m (event.Entry e ∷ xs) → PlacesFall n (event.Receipt r ∷ ys) → e ∷ entries xs ≡ entries ys → receipts xs ≡ r ∷ receipts ys → ⊥
 apart m n e xs r ys fx fy es rs =
     let low = first_receipt e.place xs r (receipts ys) fx.1 rs in
     let high = first_entry r.place ys e (entries xs) fy.1 (sym es) in
     absurd (omega (arith, low, high))
 
-pub woven : (m n : ℕ) (xs ys : List Event) → AreFalling m xs → AreFalling n ys → entries xs ≡ entries ys → receipts xs ≡ receipts ys → xs ≡ ys
+pub woven : (m n : ℕ) (xs ys : List Event) → PlacesFall m xs → PlacesFall n ys → entries xs ≡ entries ys → receipts xs ≡ receipts ys → xs ≡ ys
 woven m n [] [] fx fy es rs = refl
 woven m n [] (event.Entry e ∷ ys) fx fy es rs = absurd (cc)
 woven m n [] (event.Receipt r ∷ ys) fx fy es rs = absurd (cc)

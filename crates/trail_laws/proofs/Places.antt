@@ -9,7 +9,7 @@ use Rattle.trail.specs.declared.event.Event.TheVariants as event
 use Rattle.trail.specs.Trails.{AreNumbered, before, caller_of, mark}
 use Rattle.trail.specs.Kinds.{Placing, departure_in}
 use Rattle.trail.specs.Calls.{newest_fix, open_fixes}
-use Rattle.trail_laws.specs.Accounts.{AreEach, AreFalling, earlier, place_of, seen_by, with_event}
+use Rattle.trail_laws.specs.Accounts.{AreEach, PlacesFall, earlier, event_place, seen_by, with_event}
 use Rattle.trail_laws.specs.SoFar.{AreStill}
 
 lt_false : (m n : ℕ) → n ≤ m → nat_lt m n ≡ false
@@ -28,7 +28,7 @@ before_all first n [] less = refl
 before_all first n (e ∷ h) less = ap (λ (b : Bool). cond b (e ∷ h) (before n h)) (lt_true e.place n less)
 
 -- what an event saw stays behind a later entry
-pub seen_more : (x : Event) (e : Entry) (h : List Entry) → place_of x < e.place → seen_by x (e ∷ h) ≡ seen_by x h
+pub seen_more : (x : Event) (e : Entry) (h : List Entry) → event_place x < e.place → seen_by x (e ∷ h) ≡ seen_by x h
 seen_more (event.Entry x) e h less = before_more x.place e h (omega (arith, less))
 seen_more (event.Receipt r) e h less = before_more (r.place + 1) e h (omega (arith, less))
 
@@ -40,32 +40,32 @@ pub seen_now : (first : ℕ) (r : Receipt) (h : List Entry) → r.place ≡ mark
 seen_now first r h place = before_all first (r.place + 1) h (omega (arith, place))
 
 -- places fall from a later one too
-pub falling_up : (m n : ℕ) (mine : List Event) → m ≤ n → AreFalling m mine → AreFalling n mine
+pub falling_up : (m n : ℕ) (mine : List Event) → m ≤ n → PlacesFall m mine → PlacesFall n mine
 falling_up m n [] le falling = tt
 falling_up m n (event.Entry e ∷ mine) le falling = (omega (arith, le, falling.0), falling.1, falling.2)
 falling_up m n (event.Receipt r ∷ mine) le falling = (omega (arith, le, falling.0), falling.1)
 
-pub all_below : (n m : ℕ) (mine : List Event) → n < m → AreFalling n mine → AllByRecursion (λ d. place_of d < m) mine
+pub all_below : (n m : ℕ) (mine : List Event) → n < m → PlacesFall n mine → AllByRecursion (λ d. event_place d < m) mine
 all_below n m [] less falling = tt
 all_below n m (event.Entry e ∷ mine) less falling = (omega (arith, less, falling.0), all_below e.place m mine (omega (arith, less, falling.0)) falling.2)
 all_below n m (event.Receipt r ∷ mine) less falling = (omega (arith, less, falling.0), all_below r.place m mine (omega (arith, less, falling.0)) falling.1)
 
 -- An append leaves what holds of each event of an account, entry or receipt, whatever its cause: each reads the history that it saw, and its caller's events.
-pub each_more : (Q : List Entry → List Event → Event → Type 0) (e : Entry) (h : List Entry) (mine : List Event) → AllByRecursion (λ d. place_of d < e.place) mine → AreEach Q h mine → AreEach Q (e ∷ h) mine
+pub each_more : (Q : List Entry → List Event → Event → Type 0) (e : Entry) (h : List Entry) (mine : List Event) → AllByRecursion (λ d. event_place d < e.place) mine → AreEach Q h mine → AreEach Q (e ∷ h) mine
 each_more Q e h [] below each = tt
 each_more Q e h (x ∷ mine) below each = let P : List Entry → Type 0 = λ l. Q l mine x in (subst P (sym (seen_more x e h below.0)) each.0, each_more Q e h mine below.1 each.1)
 
-pub each_back : (Q : List Entry → List Event → Event → Type 0) (e : Entry) (h : List Entry) (mine : List Event) → AllByRecursion (λ d. place_of d < e.place) mine → AreEach Q (e ∷ h) mine → AreEach Q h mine
+pub each_back : (Q : List Entry → List Event → Event → Type 0) (e : Entry) (h : List Entry) (mine : List Event) → AllByRecursion (λ d. event_place d < e.place) mine → AreEach Q (e ∷ h) mine → AreEach Q h mine
 each_back Q e h [] below each = tt
 each_back Q e h (x ∷ mine) below each = let P : List Entry → Type 0 = λ l. Q l mine x in (subst P (seen_more x e h below.0) each.0, each_back Q e h mine below.1 each.1)
 
 -- a caller's events before a place
-pub earlier_more : (n : ℕ) (e : Event) (mine : List Event) → n ≤ place_of e → earlier n (e ∷ mine) ≡ earlier n mine
-earlier_more n e mine le = ap (λ (b : Bool). cond b (e ∷ mine) (earlier n mine)) (lt_false (place_of e) n le)
+pub earlier_more : (n : ℕ) (e : Event) (mine : List Event) → n ≤ event_place e → earlier n (e ∷ mine) ≡ earlier n mine
+earlier_more n e mine le = ap (λ (b : Bool). cond b (e ∷ mine) (earlier n mine)) (lt_false (event_place e) n le)
 
-pub earlier_all : (n : ℕ) (mine : List Event) → AllByRecursion (λ d. place_of d < n) mine → earlier n mine ≡ mine
+pub earlier_all : (n : ℕ) (mine : List Event) → AllByRecursion (λ d. event_place d < n) mine → earlier n mine ≡ mine
 earlier_all n [] below = refl
-earlier_all n (e ∷ mine) below = ap (λ (b : Bool). cond b (e ∷ mine) (earlier n mine)) (lt_true (place_of e) n below.0)
+earlier_all n (e ∷ mine) below = ap (λ (b : Bool). cond b (e ∷ mine) (earlier n mine)) (lt_true (event_place e) n below.0)
 
 -- each account behind an event: that of its caller, and the others
 pub with_each : (P : ℕ → List Event → Type 0) (e : Event) (accounts : ℕ → List Event) → P (caller_of e) (e ∷ accounts (caller_of e))
@@ -86,11 +86,11 @@ pub with_other : (e : Event) (accounts : ℕ → List Event) (d : ℕ) → nat_e
 with_other e accounts d other = ap (λ (b : Bool). cond b (e ∷ accounts d) (accounts d)) other
 
 -- what holds of each event so far, and of the next entry or note, holds of each
-pub each_entry : (Q : List Entry → List Event → Event → Type 0) (first : ℕ) (e : Entry) (h : List Entry) (accounts : ℕ → List Event) → e.place ≡ mark first h + 1 → ((c : ℕ) → AreFalling (mark first h) (accounts c))
+pub each_entry : (Q : List Entry → List Event → Event → Type 0) (first : ℕ) (e : Entry) (h : List Entry) (accounts : ℕ → List Event) → e.place ≡ mark first h + 1 → ((c : ℕ) → PlacesFall (mark first h) (accounts c))
     → Q h (accounts e.caller) (event.Entry e) → ((c : ℕ) → AreEach Q h (accounts c)) → (c : ℕ) → AreEach Q (e ∷ h) (with_event (event.Entry e) accounts c)
 each_entry Q first e h accounts place falling is each =
     let x : Event = event.Entry e in
-    let below : (c : ℕ) → AllByRecursion (λ y. place_of y < e.place) (accounts c) = λ c. all_below (mark first h) e.place (accounts c) (omega (arith, place)) (falling c) in
+    let below : (c : ℕ) → AllByRecursion (λ y. event_place y < e.place) (accounts c) = λ c. all_below (mark first h) e.place (accounts c) (omega (arith, place)) (falling c) in
     let P : List Entry → Type 0 = λ l. Q l (accounts e.caller) x in
     with_each (λ c mine. AreEach Q (e ∷ h) mine) x accounts (subst P (sym (seen_next first e h place)) is, each_more Q e h (accounts e.caller) (below e.caller) (each e.caller))
     (λ c other. each_more Q e h (accounts c) (below c) (each c))
@@ -103,7 +103,7 @@ each_note Q first r h accounts place is each =
     with_each (λ c mine. AreEach Q h mine) x accounts (subst P (sym (seen_now first r h place)) is, each r.caller) (λ c other. each c)
 
 -- events at or behind a place leave what stood before it
-pub earlier_with : (n : ℕ) (e : Event) (accounts : ℕ → List Event) (d : ℕ) → n ≤ place_of e → earlier n (with_event e accounts d) ≡ earlier n (accounts d)
+pub earlier_with : (n : ℕ) (e : Event) (accounts : ℕ → List Event) (d : ℕ) → n ≤ event_place e → earlier n (with_event e accounts d) ≡ earlier n (accounts d)
 earlier_with n e accounts d le = cases (nat_eq d (caller_of e))
   where
     cases : (b : Bool) → earlier n (cond b (e ∷ accounts d) (accounts d)) ≡ earlier n (accounts d)

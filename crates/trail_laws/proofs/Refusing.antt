@@ -26,7 +26,7 @@ use Rattle.trail.specs.Spaces.{IsOutside, named_page, sought_page}
 use Rattle.trail.specs.Causes.{IsLogSpent, IsOther, IsSpent, IsStale, IsUndone, before_undo, due, full_cause, frame_cause, large_cause, resident_cause, small_cause, withdrawing_cause}
 use Rattle.trail.specs.Victim.{AreAllFixed}
 use Rattle.trail.proofs.Judging.{first_of, outside_of}
-use Rattle.trail_laws.specs.Adding.{IsAsked, IsCalling, MayRefuse}
+use Rattle.trail_laws.specs.Adding.{MayAsk, IsCalling, MayRefuse}
 use Rattle.trail_laws.proofs.Places.{before_all, before_more}
 use Rattle.trail_laws.proofs.Asking.{has_frame, has_no_frame, is_full, is_large, is_resident, is_withdrawing, not_full, not_large, not_small, reached}
 
@@ -36,97 +36,97 @@ untold pages None = tt
 untold pages (Some p) = tt
 
 -- Causes that come where they hold, to a call of which no exact cause is due.
-pub every_frame_fixed : (o : Opening) (pages : ℕ → ℕ) (h base : List Entry) (mine : List Event) (c n : ℕ) (asked : Call) (p : PageId) (seen : List (ℕ × Word)) → before_call (made n mine) h ≡ base → IsAsked o pages base c n asked
+pub every_frame_fixed : (o : Opening) (pages : ℕ → ℕ) (h base : List Entry) (mine : List Event) (c n : ℕ) (asked : Call) (p : PageId) (seen : List (ℕ × Word)) → before_call (made n mine) h ≡ base → MayAsk o pages base c n asked
     → due o h mine c n asked ≡ None → named_page asked ≡ Some p → AreAllFixed o.config h p seen → MayRefuse o pages h mine c n asked (cause.AllFixed seen)
 every_frame_fixed o pages h base mine c n asked p seen at ask none named all =
     let A : Option PageId → Type 0 = λ page. IsSomeAnd page (λ q. AreAllFixed o.config h q seen) in
     record { causes = λ past told. (reached o pages past h base (made n mine) c n asked at ask told, (none, subst A (sym named) all)); spaces = record { inside = ask.inside; told = untold pages (named_page asked) } }
 
-pub log_failed : (o : Opening) (pages : ℕ → ℕ) (h base : List Entry) (mine : List Event) (c n : ℕ) (asked : Call) (before after : ℕ) → before_call (made n mine) h ≡ base → IsAsked o pages base c n asked
+pub log_failed : (o : Opening) (pages : ℕ → ℕ) (h base : List Entry) (mine : List Event) (c n : ℕ) (asked : Call) (before after : ℕ) → before_call (made n mine) h ≡ base → MayAsk o pages base c n asked
     → due o h mine c n asked ≡ None → Rose before after → log_faults h ≤ before → MayRefuse o pages h mine c n asked (cause.RedoFault before after)
 log_failed o pages h base mine c n asked before after at ask none rose later =
     record { causes = λ past told. (reached o pages past h base (made n mine) c n asked at ask told, (none, (rose, later))); spaces = record { inside = ask.inside; told = untold pages (named_page asked) } }
 
-pub disk_failed : (o : Opening) (pages : ℕ → ℕ) (h base : List Entry) (mine : List Event) (c n : ℕ) (asked : Call) (before after : ℕ) → before_call (made n mine) h ≡ base → IsAsked o pages base c n asked
+pub disk_failed : (o : Opening) (pages : ℕ → ℕ) (h base : List Entry) (mine : List Event) (c n : ℕ) (asked : Call) (before after : ℕ) → before_call (made n mine) h ≡ base → MayAsk o pages base c n asked
     → due o h mine c n asked ≡ None → Rose before after → disk_faults h ≤ before → MayRefuse o pages h mine c n asked (cause.DiskFault before after)
 disk_failed o pages h base mine c n asked before after at ask none rose later =
     record { causes = λ past told. (reached o pages past h base (made n mine) c n asked at ask told, (none, (rose, later))); spaces = record { inside = ask.inside; told = untold pages (named_page asked) } }
 
-pub page_is_bad : (o : Opening) (pages : ℕ → ℕ) (h base : List Entry) (mine : List Event) (c n : ℕ) (asked : Call) (p : PageId) (bad : BadPage) → before_call (made n mine) h ≡ base → IsAsked o pages base c n asked
+pub page_is_bad : (o : Opening) (pages : ℕ → ℕ) (h base : List Entry) (mine : List Event) (c n : ℕ) (asked : Call) (p : PageId) (bad : BadPage) → before_call (made n mine) h ≡ base → MayAsk o pages base c n asked
     → due o h mine c n asked ≡ None → named_page asked ≡ Some p → IsOther p bad → MayRefuse o pages h mine c n asked (cause.BadPage bad)
 page_is_bad o pages h base mine c n asked p bad at ask none named other =
     let B : Option PageId → Type 0 = λ page. IsSomeAnd page (λ q. IsOther q bad) in
     record { causes = λ past told. (reached o pages past h base (made n mine) c n asked at ask told, (none, subst B (sym named) other)); spaces = record { inside = ask.inside; told = untold pages (named_page asked) } }
 
-pub log_is_spent : (o : Opening) (pages : ℕ → ℕ) (h base : List Entry) (mine : List Event) (c n : ℕ) (asked : Call) (end : ℕ) → before_call (made n mine) h ≡ base → IsAsked o pages base c n asked
+pub log_is_spent : (o : Opening) (pages : ℕ → ℕ) (h base : List Entry) (mine : List Event) (c n : ℕ) (asked : Call) (end : ℕ) → before_call (made n mine) h ≡ base → MayAsk o pages base c n asked
     → due o h mine c n asked ≡ None → IsLogSpent h asked end → MayRefuse o pages h mine c n asked (cause.LogSpent end)
 log_is_spent o pages h base mine c n asked end at ask none spent =
     record { causes = λ past told. (reached o pages past h base (made n mine) c n asked at ask told, (none, spent)); spaces = record { inside = ask.inside; told = untold pages (named_page asked) } }
 
-pub rounds_undone : (o : Opening) (pages : ℕ → ℕ) (h base : List Entry) (mine : List Event) (c n : ℕ) (asked : Call) (seen : List (ℕ × Word)) → before_call (made n mine) h ≡ base → IsAsked o pages base c n asked
+pub rounds_undone : (o : Opening) (pages : ℕ → ℕ) (h base : List Entry) (mine : List Event) (c n : ℕ) (asked : Call) (seen : List (ℕ × Word)) → before_call (made n mine) h ≡ base → MayAsk o pages base c n asked
     → due o h mine c n asked ≡ None → IsUndone o.config (before_undo (made n mine) h) asked seen → MayRefuse o pages h mine c n asked (cause.Undone seen)
 rounds_undone o pages h base mine c n asked seen at ask none undone =
     record { causes = λ past told. (reached o pages past h base (made n mine) c n asked at ask told, (none, undone)); spaces = record { inside = ask.inside; told = untold pages (named_page asked) } }
 
-pub hint_is_stale : (o : Opening) (pages : ℕ → ℕ) (h base : List Entry) (mine : List Event) (c n : ℕ) (asked : Call) (hint : Hint) (found : Word) → before_call (made n mine) h ≡ base → IsAsked o pages base c n asked
+pub hint_is_stale : (o : Opening) (pages : ℕ → ℕ) (h base : List Entry) (mine : List Event) (c n : ℕ) (asked : Call) (hint : Hint) (found : Word) → before_call (made n mine) h ≡ base → MayAsk o pages base c n asked
     → due o h mine c n asked ≡ None → hint_of asked ≡ Some hint → IsStale found hint → MayRefuse o pages h mine c n asked (cause.Stale found)
 hint_is_stale o pages h base mine c n asked hint found at ask none of stale =
     let S : Option Hint → Type 0 = λ x. IsSomeAnd x (IsStale found) in
     record { causes = λ past told. (reached o pages past h base (made n mine) c n asked at ask told, (none, subst S (sym of) stale)); spaces = record { inside = ask.inside; told = untold pages (named_page asked) } }
 
-pub other_page_there : (o : Opening) (pages : ℕ → ℕ) (h base : List Entry) (mine : List Event) (c n : ℕ) (asked : Call) (hint : Hint) (found : PageId) → before_call (made n mine) h ≡ base → IsAsked o pages base c n asked
+pub other_page_there : (o : Opening) (pages : ℕ → ℕ) (h base : List Entry) (mine : List Event) (c n : ℕ) (asked : Call) (hint : Hint) (found : PageId) → before_call (made n mine) h ≡ base → MayAsk o pages base c n asked
     → due o h mine c n asked ≡ None → hint_of asked ≡ Some hint → same_page found hint.page ≡ false → MayRefuse o pages h mine c n asked (cause.OtherPage found)
 other_page_there o pages h base mine c n asked hint found at ask none of other =
     let S : Option Hint → Type 0 = λ x. IsSomeAnd x (λ (t : Hint). same_page found t.page ≡ false) in
     record { causes = λ past told. (reached o pages past h base (made n mine) c n asked at ask told, (none, subst S (sym of) other)); spaces = record { inside = ask.inside; told = untold pages (named_page asked) } }
 
-pub frame_was_latched : (o : Opening) (pages : ℕ → ℕ) (h base : List Entry) (mine : List Event) (c n : ℕ) (asked : Call) (found : Word) → before_call (made n mine) h ≡ base → IsAsked o pages base c n asked
+pub frame_was_latched : (o : Opening) (pages : ℕ → ℕ) (h base : List Entry) (mine : List Event) (c n : ℕ) (asked : Call) (found : Word) → before_call (made n mine) h ≡ base → MayAsk o pages base c n asked
     → due o h mine c n asked ≡ None → is_latched found ≡ true → MayRefuse o pages h mine c n asked (cause.Latched found)
 frame_was_latched o pages h base mine c n asked found at ask none latched =
     record { causes = λ past told. (reached o pages past h base (made n mine) c n asked at ask told, (none, latched)); spaces = record { inside = ask.inside; told = untold pages (named_page asked) } }
 
-pub frame_was_busy : (o : Opening) (pages : ℕ → ℕ) (h base : List Entry) (mine : List Event) (c n : ℕ) (asked : Call) (found : Word) → before_call (made n mine) h ≡ base → IsAsked o pages base c n asked
+pub frame_was_busy : (o : Opening) (pages : ℕ → ℕ) (h base : List Entry) (mine : List Event) (c n : ℕ) (asked : Call) (found : Word) → before_call (made n mine) h ≡ base → MayAsk o pages base c n asked
     → due o h mine c n asked ≡ None → is_latched found ≡ true → MayRefuse o pages h mine c n asked (cause.Busy found)
 frame_was_busy o pages h base mine c n asked found at ask none latched =
     record { causes = λ past told. (reached o pages past h base (made n mine) c n asked at ask told, (none, latched)); spaces = record { inside = ask.inside; told = untold pages (named_page asked) } }
 
 -- Exact causes, each the first that is due.
-pub holds_all : (o : Opening) (pages : ℕ → ℕ) (h base : List Entry) (mine : List Event) (c n : ℕ) (asked : Call) → before_call (made n mine) h ≡ base → IsAsked o pages base c n asked
+pub holds_all : (o : Opening) (pages : ℕ → ℕ) (h base : List Entry) (mine : List Event) (c n : ℕ) (asked : Call) → before_call (made n mine) h ≡ base → MayAsk o pages base c n asked
     → due o h mine c n asked ≡ Some (cause.HoldFull MOST_FIXES) → MayRefuse o pages h mine c n asked (cause.HoldFull MOST_FIXES)
 holds_all o pages h base mine c n asked at ask is =
     record { causes = λ past told. (reached o pages past h base (made n mine) c n asked at ask told, first_of _ _ _ is); spaces = record { inside = ask.inside; told = untold pages (named_page asked) } }
 
-pub page_is_resident : (o : Opening) (pages : ℕ → ℕ) (h base : List Entry) (mine : List Event) (c n : ℕ) (asked : Call) (f : ℕ) → before_call (made n mine) h ≡ base → IsAsked o pages base c n asked
+pub page_is_resident : (o : Opening) (pages : ℕ → ℕ) (h base : List Entry) (mine : List Event) (c n : ℕ) (asked : Call) (f : ℕ) → before_call (made n mine) h ≡ base → MayAsk o pages base c n asked
     → due o h mine c n asked ≡ Some (cause.Resident f) → MayRefuse o pages h mine c n asked (cause.Resident f)
 page_is_resident o pages h base mine c n asked f at ask is =
     record { causes = λ past told. (reached o pages past h base (made n mine) c n asked at ask told, first_of _ _ _ is); spaces = record { inside = ask.inside; told = untold pages (named_page asked) } }
 
-pub watches_full : (o : Opening) (pages : ℕ → ℕ) (h base : List Entry) (mine : List Event) (c n : ℕ) (asked : Call) → before_call (made n mine) h ≡ base → IsAsked o pages base c n asked
+pub watches_full : (o : Opening) (pages : ℕ → ℕ) (h base : List Entry) (mine : List Event) (c n : ℕ) (asked : Call) → before_call (made n mine) h ≡ base → MayAsk o pages base c n asked
     → due o h mine c n asked ≡ Some (cause.WatchFull MOST_WATCHES) → MayRefuse o pages h mine c n asked (cause.WatchFull MOST_WATCHES)
 watches_full o pages h base mine c n asked at ask is =
     record { causes = λ past told. (reached o pages past h base (made n mine) c n asked at ask told, first_of _ _ _ is); spaces = record { inside = ask.inside; told = untold pages (named_page asked) } }
 
-pub never_watched : (o : Opening) (pages : ℕ → ℕ) (h base : List Entry) (mine : List Event) (c n : ℕ) (asked : Call) → before_call (made n mine) h ≡ base → IsAsked o pages base c n asked
+pub never_watched : (o : Opening) (pages : ℕ → ℕ) (h base : List Entry) (mine : List Event) (c n : ℕ) (asked : Call) → before_call (made n mine) h ≡ base → MayAsk o pages base c n asked
     → due o h mine c n asked ≡ Some cause.NoWatch → MayRefuse o pages h mine c n asked cause.NoWatch
 never_watched o pages h base mine c n asked at ask is =
     record { causes = λ past told. (reached o pages past h base (made n mine) c n asked at ask told, first_of _ _ _ is); spaces = record { inside = ask.inside; told = untold pages (named_page asked) } }
 
-pub too_small : (o : Opening) (pages : ℕ → ℕ) (h base : List Entry) (mine : List Event) (c n : ℕ) (asked : Call) → before_call (made n mine) h ≡ base → IsAsked o pages base c n asked
+pub too_small : (o : Opening) (pages : ℕ → ℕ) (h base : List Entry) (mine : List Event) (c n : ℕ) (asked : Call) → before_call (made n mine) h ≡ base → MayAsk o pages base c n asked
     → due o h mine c n asked ≡ Some cause.TooSmall → MayRefuse o pages h mine c n asked cause.TooSmall
 too_small o pages h base mine c n asked at ask is =
     record { causes = λ past told. (reached o pages past h base (made n mine) c n asked at ask told, first_of _ _ _ is); spaces = record { inside = ask.inside; told = untold pages (named_page asked) } }
 
-pub too_large : (o : Opening) (pages : ℕ → ℕ) (h base : List Entry) (mine : List Event) (c n : ℕ) (asked : Call) (chunks max : ℕ) → before_call (made n mine) h ≡ base → IsAsked o pages base c n asked
+pub too_large : (o : Opening) (pages : ℕ → ℕ) (h base : List Entry) (mine : List Event) (c n : ℕ) (asked : Call) (chunks max : ℕ) → before_call (made n mine) h ≡ base → MayAsk o pages base c n asked
     → due o h mine c n asked ≡ Some (cause.TooLarge chunks max) → MayRefuse o pages h mine c n asked (cause.TooLarge chunks max)
 too_large o pages h base mine c n asked chunks max at ask is =
     record { causes = λ past told. (reached o pages past h base (made n mine) c n asked at ask told, first_of _ _ _ is); spaces = record { inside = ask.inside; told = untold pages (named_page asked) } }
 
-pub others_withdraw : (o : Opening) (pages : ℕ → ℕ) (h base : List Entry) (mine : List Event) (c n : ℕ) (asked : Call) (from : ℕ) → before_call (made n mine) h ≡ base → IsAsked o pages base c n asked
+pub others_withdraw : (o : Opening) (pages : ℕ → ℕ) (h base : List Entry) (mine : List Event) (c n : ℕ) (asked : Call) (from : ℕ) → before_call (made n mine) h ≡ base → MayAsk o pages base c n asked
     → due o h mine c n asked ≡ Some (cause.Withdrawing from) → MayRefuse o pages h mine c n asked (cause.Withdrawing from)
 others_withdraw o pages h base mine c n asked from at ask is =
     record { causes = λ past told. (reached o pages past h base (made n mine) c n asked at ask told, first_of _ _ _ is); spaces = record { inside = ask.inside; told = untold pages (named_page asked) } }
 
-pub no_such_frame : (o : Opening) (pages : ℕ → ℕ) (h base : List Entry) (mine : List Event) (c n : ℕ) (asked : Call) (frames : ℕ) → before_call (made n mine) h ≡ base → IsAsked o pages base c n asked
+pub no_such_frame : (o : Opening) (pages : ℕ → ℕ) (h base : List Entry) (mine : List Event) (c n : ℕ) (asked : Call) (frames : ℕ) → before_call (made n mine) h ≡ base → MayAsk o pages base c n asked
     → due o h mine c n asked ≡ Some (cause.NoFrame frames) → MayRefuse o pages h mine c n asked (cause.NoFrame frames)
 no_such_frame o pages h base mine c n asked frames at ask is =
     record { causes = λ past told. (reached o pages past h base (made n mine) c n asked at ask told, first_of _ _ _ is); spaces = record { inside = ask.inside; told = untold pages (named_page asked) } }

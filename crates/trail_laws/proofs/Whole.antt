@@ -17,8 +17,8 @@ use Rattle.trail.specs.Alone.{closing_number, is_of_flush, only_caller, other_ca
 use Rattle.trail.specs.Promises.{ArePromised, IsPromised, IsTold}
 use Rattle.trail.specs.Laws.{AreLawful, IsCutShort, IsLawfulTrail, IsSettled}
 use Rattle.trail.proofs.Judging.{AreTrue, IsSpaceOf, of_all, shown_after, told_after}
-use Rattle.trail_laws.specs.Accounts.{AreEach, IsAccount, earlier, place_of, seen_by}
-use Rattle.trail_laws.specs.SoFar.{AreLawfulOf, ArePromisedSoFar, AreStill, AreTrueAlone, AreTrueBy, IsFree, IsLawfulOf, IsLawfulSoFar, IsTrueBy, TellSpaces, is_of_clean}
+use Rattle.trail_laws.specs.Accounts.{AreEach, IsAccount, earlier, event_place, seen_by}
+use Rattle.trail_laws.specs.SoFar.{AreLawfulOf, ArePromisedSoFar, AreStill, AreTrueAlone, AreTrueBy, IsFixedByNone, IsLawfulOf, IsLawfulSoFar, IsTrueBy, TellSpaces, is_of_clean}
 use Rattle.trail_laws.specs.Ending.{AreDone, AreEnded, IsAnswered, IsTrailOf}
 use Rattle.trail_laws.proofs.Places.{all_below, each_back, earlier_all, earlier_more, seen_next, seen_now, some_on, still_on, up_to_mark}
 use Rattle.trail_laws.proofs.Calling.{most_parts}
@@ -37,9 +37,9 @@ rest_of P e past c less is = cases (nat_eq (caller_of e) c) is
     cases false p = p
 
 -- what stood before an entry has lower places
-before_entry : (first : ℕ) (e : Entry) (past : List Event) (c : ℕ) → IsPlaced first (event.Entry e ∷ past) → AllByRecursion (λ d. place_of d < e.place) (own c past)
+before_entry : (first : ℕ) (e : Entry) (past : List Event) (c : ℕ) → IsPlaced first (event.Entry e ∷ past) → AllByRecursion (λ d. event_place d < e.place) (own c past)
 before_entry first e past c placed =
-    all_own (λ d. place_of d < e.place) c past (all_below (mark first (entries past)) e.place past (omega (arith, placed.0)) (placed_falls first past placed.1))
+    all_own (λ d. event_place d < e.place) c past (all_below (mark first (entries past)) e.place past (omega (arith, placed.0)) (placed_falls first past placed.1))
 
 numbered : (first : ℕ) (past : List Event) → IsPlaced first past → AreNumbered first (entries past)
 numbered first [] placed = tt
@@ -79,14 +79,14 @@ spaces_told o pages (event.Receipt r ∷ past) placed laws s =
     space_after pages s x past (each_here (IsLawfulOf o pages) o.first x past placed laws).spaces (spaces_told o pages past placed.1 (each_rest (IsLawfulOf o pages) o.first x past placed laws) s)
 
 -- Nobody has fixed what leaves or moves.
-earlier_own : (n c : ℕ) (e : Event) (past : List Event) → n ≤ place_of e → earlier n (own c (e ∷ past)) ≡ earlier n (own c past)
+earlier_own : (n c : ℕ) (e : Event) (past : List Event) → n ≤ event_place e → earlier n (own c (e ∷ past)) ≡ earlier n (own c past)
 earlier_own n c e past le = own_by (λ l. earlier n l ≡ earlier n (own c past)) c e past (λ is. earlier_more n e (own c past) le) (λ other. refl)
 
-still_back : (first : ℕ) (e : Event) (past : List Event) (h : List Entry) → mark first h ≤ place_of e → AreNumbered first h → AreStill (λ c. own c (e ∷ past)) h → AreStill (λ c. own c past) h
+still_back : (first : ℕ) (e : Event) (past : List Event) (h : List Entry) → mark first h ≤ event_place e → AreNumbered first h → AreStill (λ c. own c (e ∷ past)) h → AreStill (λ c. own c past) h
 still_back first e past h le is_numbered still =
-    still_on (place_of e) (λ c. own c (e ∷ past)) (λ c. own c past) h (λ k c below. sym (earlier_own k c e past below)) (up_to_mark first (place_of e) h is_numbered le) still
+    still_on (event_place e) (λ c. own c (e ∷ past)) (λ c. own c past) h (λ k c below. sym (earlier_own k c e past below)) (up_to_mark first (event_place e) h is_numbered le) still
 
-still_here : (first : ℕ) (e : Entry) (past : List Event) → IsPlaced first (event.Entry e ∷ past) → IfSome (departure_in e.kind) (λ d. IsFree (λ c. earlier e.place (own c (event.Entry e ∷ past))) d.page) → IsStill past (event.Entry e)
+still_here : (first : ℕ) (e : Entry) (past : List Event) → IsPlaced first (event.Entry e ∷ past) → IfSome (departure_in e.kind) (λ d. IsFixedByNone (λ c. earlier e.place (own c (event.Entry e ∷ past))) d.page) → IsStill past (event.Entry e)
 still_here first e past placed free =
     some_on (departure_in e.kind) _ _ (λ (d : Placing) is. of_all (λ c. newest_fix (held_by past c) d.page ≡ None) (callers past) (λ c.
     let same : earlier e.place (own c (event.Entry e ∷ past)) ≡ own c past = earlier_own e.place c (event.Entry e) past (omega arith) ∙ earlier_all e.place (own c past) (before_entry first e past c placed) in

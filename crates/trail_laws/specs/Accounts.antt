@@ -7,9 +7,9 @@ use Rattle.trail.specs.declared.event.Event.{Event}
 use Rattle.trail.specs.declared.event.Event.TheVariants as event
 use Rattle.trail.specs.Trails.{AreNumbered, before, caller_of, entries, mark, receipts}
 
-abbrev pub place_of : Event → ℕ
-place_of (event.Entry e) = e.place
-place_of (event.Receipt r) = r.place
+abbrev pub event_place : Event → ℕ
+event_place (event.Entry e) = e.place
+event_place (event.Receipt r) = r.place
 
 -- what an event saw of the history: an entry what stands before it, a receipt the history at its place
 abbrev pub seen_by : Event → List Entry → List Entry
@@ -19,7 +19,7 @@ seen_by (event.Receipt r) h = before (r.place + 1) h
 -- a caller's events before the entry of this place
 abbrev pub earlier : ℕ → List Event → List Event
 earlier n [] = []
-earlier n (e ∷ mine) = if nat_lt (place_of e) n then e ∷ mine else earlier n mine
+earlier n (e ∷ mine) = if nat_lt (event_place e) n then e ∷ mine else earlier n mine
 
 -- a fact of each of a caller's events, over the history that it saw and the caller's events before it
 abbrev pub AreEach : (List Entry → List Event → Event → Type 0) → List Entry → List Event → Type 0
@@ -35,10 +35,10 @@ abbrev pub entries_of : ℕ → List Entry → List Entry
 entries_of c h = filter (λ (e : Entry). e.caller == c) h
 
 -- A caller's events have places up to this one, which fall; what stands before an entry has a lower place than it.
-abbrev pub AreFalling : ℕ → List Event → Type 0
-AreFalling n [] = ⊤
-AreFalling n (event.Entry e ∷ mine) = (e.place ≤ n) × AllByRecursion (λ d. place_of d < e.place) mine × AreFalling e.place mine
-AreFalling n (event.Receipt r ∷ mine) = (r.place ≤ n) × AreFalling r.place mine
+abbrev pub PlacesFall : ℕ → List Event → Type 0
+PlacesFall n [] = ⊤
+PlacesFall n (event.Entry e ∷ mine) = (e.place ≤ n) × AllByRecursion (λ d. event_place d < e.place) mine × PlacesFall e.place mine
+PlacesFall n (event.Receipt r ∷ mine) = (r.place ≤ n) × PlacesFall r.place mine
 
 -- each receipt's call came after those of the receipts before it
 abbrev pub AreInTurn : List Receipt → Type 0
@@ -49,7 +49,7 @@ AreInTurn (r ∷ rs) = AllByRecursion (λ (q : Receipt). q.number < r.number) rs
 pub record IsAccount (first : ℕ) (h : List Entry) (c : ℕ) (mine : List Event) : Type 0 where
   pub own : AllByRecursion (λ e. caller_of e ≡ c) mine
   pub kept : entries mine ≡ entries_of c h
-  pub falling : AreFalling (mark first h) mine
+  pub falling : PlacesFall (mark first h) mine
   pub turns : AreInTurn (receipts mine)
 
 -- Places: the entries are numbered by theirs, and each caller has its account.

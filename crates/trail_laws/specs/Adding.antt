@@ -23,7 +23,7 @@ use Rattle.trail.specs.Victim.{IsVictimKind}
 use Rattle.trail.specs.Withdrawal.{IsWithdrawalKind}
 use Rattle.trail.specs.Promises.{IsNoteOfSpaces, IsOfSpaces, IsTold}
 use Rattle.trail_laws.specs.Accounts.{with_event}
-use Rattle.trail_laws.specs.SoFar.{AreAlone, IsFree, IsTrueBy, TellSpaces}
+use Rattle.trail_laws.specs.SoFar.{AreAlone, IsFixedByNone, IsTrueBy, TellSpaces}
 
 -- the call under way has made its first entry, or not
 abbrev pub not_begun : List Entry → ℕ
@@ -58,7 +58,7 @@ pub record IsResizing (mine : List Event) (n : ℕ) (pending : List Entry) : Typ
   pub begun : IsTrue (is_resize pending)
 
 -- what a call asks for where it began: its places were left, and the page that it asks the disk for is in its space
-pub record IsAsked (o : Opening) (pages : ℕ → ℕ) (base : List Entry) (c n : ℕ) (asked : Call) : Type 0 where
+pub record MayAsk (o : Opening) (pages : ℕ → ℕ) (base : List Entry) (c n : ℕ) (asked : Call) : Type 0 where
   pub places : HasPlaces o.first o.config base c n asked
   pub inside : IfSome (sought_page asked) (λ p. p.page < pages p.space)
 
@@ -79,7 +79,7 @@ pub record MayAdd (o : Opening) (pages : ℕ → ℕ) (h : List Entry) (accounts
   pub together : IsTogether (mark o.first h + 1) (made n (accounts c))
   pub before : MayPrecede h (made n (accounts c)) k
   pub kind : IsLegalKind o h (accounts c) c n k
-  pub still : IfSome (departure_in k) (λ d. IsFree accounts d.page)
+  pub still : IfSome (departure_in k) (λ d. IsFixedByNone accounts d.page)
   pub covered : IfSome (write_in k) (λ w. IsCoveredWrite h w.page w.lsn w.upto)
   pub causes : (past : List Event) → TellSpaces pages past → IsCausedKind o past h (accounts c) c n k
   pub victim : IsVictimKind o.config h c n k

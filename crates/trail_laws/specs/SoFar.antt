@@ -39,12 +39,12 @@ abbrev pub AreLawfulOf : Opening → (ℕ → ℕ) → List Entry → List Event
 AreLawfulOf o pages h mine = AreEach (IsLawfulOf o pages) h mine
 
 -- nobody has an open fix of the page
-abbrev pub IsFree : (ℕ → List Event) → PageId → Type 0
-IsFree accounts p = (c : ℕ) → newest_fix (open_fixes (accounts c)) p ≡ None
+abbrev pub IsFixedByNone : (ℕ → List Event) → PageId → Type 0
+IsFixedByNone accounts p = (c : ℕ) → newest_fix (open_fixes (accounts c)) p ≡ None
 
 -- a page that left or moved was fixed by nobody before that entry
 abbrev pub AreStill : (ℕ → List Event) → List Entry → Type 0
-AreStill accounts h = AllByRecursion (λ (e : Entry). IfSome (departure_in e.kind) (λ d. IsFree (λ c. earlier e.place (accounts c)) d.page)) h
+AreStill accounts h = AllByRecursion (λ (e : Entry). IfSome (departure_in e.kind) (λ d. IsFixedByNone (λ c. earlier e.place (accounts c)) d.page)) h
 
 -- What stands between any two events.
 pub record IsLawfulSoFar (o : Opening) (pages : ℕ → ℕ) (h : List Entry) (accounts : ℕ → List Event) : Type 0 where

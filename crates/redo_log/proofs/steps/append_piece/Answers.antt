@@ -4,7 +4,7 @@ use Rattle.crossbeam_utils.specs.Register.{Turns}
 use Rattle.redo_mark.specs.Records.{sealed}
 use Rattle.redo_log.specs.declared.view.Piece.{Piece}
 use Rattle.redo_log.specs.Story.{piece_at}
-use Rattle.redo_log.specs.Marks.{Kept, Appends}
+use Rattle.redo_log.specs.Marks.{Kept, AppendsPiece}
 use Rattle.redo_log.proofs.Keeps.{appends}
 use Rattle.redo_log.proofs.steps.append_piece.Goals as goal
 
@@ -20,7 +20,7 @@ swap_as-requires g c =
         search rules,
         (
           search rules,
-          subst (λ (q : Piece). Turns Kept by v (λ _. c.args.words) (Appends q)) (sym c.requires.piece)
+          subst (λ (q : Piece). Turns Kept by v (λ _. c.args.words) (AppendsPiece q)) (sym c.requires.piece)
               (appends by v p c.args.words c.requires.keeps c.requires.start c.requires.words long c.requires.sound c.requires.share),
         ),
       ),

@@ -1,6 +1,6 @@
 use Rattle.std.proofs.Common.{◌≡◌, true≢false, sym, arith, ap, ◌∙◌}
 use Rattle.crossbeam_utils.specs.Seq.{cell_view}
-use Rattle.redo_mark.specs.Logs.{State}
+use Rattle.redo_mark.specs.Logs.{LogState}
 use Rattle.redo_log.specs.declared.view.View.{View}
 use Rattle.redo_log.proofs.Agreement.{below}
 use Rattle.redo_log.proofs.turns.cover.Goals as goal
@@ -28,6 +28,6 @@ returns-in-Err-clause-fault g c = λ before after is.
 
 pub returns-in-Err-clause-unused : goal.returns-in-Err-clause-unused
 returns-in-Err-clause-unused g c = λ l end is.
-    let same = ap (λ (s : State g.row.R.Denot). s.seen.faults) (c.in-Err.ensures.beyond l end is).3 in
+    let same = ap (λ (s : LogState g.row.R.Denot). s.seen.faults) (c.in-Err.ensures.beyond l end is).3 in
     let met = ap (λ (v : View). v.met) c.mark.ensures.view in
     omega (arith, met, same, c.faults.ensures, c.requires.turn.agrees.faults)

@@ -1,5 +1,5 @@
 use Rattle.std.proofs.Common.{◌≡◌, ℕ, List, Some, Result, Ok, Err, inl, inr, ◌⊎◌, ap, ◌∙◌, sym, subst}
-use Rattle.script_text.specs.Verdict.{IsScript, IsBad}
+use Rattle.script_text.specs.Verdict.{IsScript, IsBadScript}
 use Rattle.script_text.specs.declared.reader.ScriptErr.{ScriptErr}
 use Rattle.script_text.specs.declared.reader.ScriptErr.TheVariants as refusal
 use Rattle.script_run.proofs.Answering.{all_script, all_ends, all_bad, bad_all}
@@ -26,14 +26,14 @@ returns-in-Ok-read_script-clause-read g c =
 pub returns-in-Ok-read_script-clause-bad : goal.returns-in-Ok-read_script-clause-bad
 returns-in-Ok-read_script-clause-bad g c = λ bytes n e bad.
     let given = c.in-Ok.ensures.given bytes e in
-    let B : List ℕ → Type 0 = λ b. IsBad b n in
+    let B : List ℕ → Type 0 = λ b. IsBadScript b n in
     not_bad c.read_script.result _ n c.in-Ok-read_script.is (c.read_script.ensures.bad_only n (subst B (sym c.as_slice.ensures.value) (bad_all bytes c.in-Ok.bytes.items given.0 n given.2 given.3 bad)))
 
 pub returns-in-Err-BadLine-clause-refused : goal.returns-in-Err-BadLine-clause-refused
 returns-in-Err-BadLine-clause-refused g c = λ bytes e.
     let given = c.in-Ok.ensures.given bytes e in
     let line = c.in-Err-BadLine.line in
-    let B : List ℕ → Type 0 = λ b. IsBad b line in
+    let B : List ℕ → Type 0 = λ b. IsBadScript b line in
     let is : c.read_script.result ≡ Err (refusal.BadLine line) = c.in-Err-BadLine.is ∙ ap (λ x. Err x) c.in-Err-BadLine.field-0-is in
     all_bad bytes c.in-Ok.bytes.items given.0 line given.2 given.3 (subst B c.as_slice.ensures.value (c.read_script.ensures.bad line is))
 
@@ -41,6 +41,6 @@ pub returns-in-Err-BadLine-clause-bad : goal.returns-in-Err-BadLine-clause-bad
 returns-in-Err-BadLine-clause-bad g c = λ bytes n e bad.
     let given = c.in-Ok.ensures.given bytes e in
     let line = c.in-Err-BadLine.line in
-    let B : List ℕ → Type 0 = λ b. IsBad b n in
+    let B : List ℕ → Type 0 = λ b. IsBadScript b n in
     let is : c.read_script.result ≡ Err (refusal.BadLine line) = c.in-Err-BadLine.is ∙ ap (λ x. Err x) c.in-Err-BadLine.field-0-is in
     same_line c.read_script.result line n is (c.read_script.ensures.bad_only n (subst B (sym c.as_slice.ensures.value) (bad_all bytes c.in-Ok.bytes.items given.0 n given.2 given.3 bad)))

@@ -1,5 +1,5 @@
 use Rattle.std.proofs.Common.{◌≡◌, ◌≢◌, ℕ, ◌⊎◌, inl, inr, refl, ◌∙◌, sym, subst, arith}
-use Rattle.script_text.specs.Verdict.{IsBad}
+use Rattle.script_text.specs.Verdict.{IsBadScript}
 use Rattle.script_run.specs.Ends.{IsNoScriptErr, IsBadAt}
 use Rattle.script_run.proofs.no_device.check.Goals as goal
 
@@ -44,7 +44,7 @@ returns-in-Err-Bad-clause-checked g c = record {
   statuses = inr (inl refl);
   line = λ other. absurd (other refl);
   printed = λ either. absurd (not_printed 3 refl either);
-  bad = λ three bytes e. subst (IsBad bytes) (sym c.in-Err-Bad.line-is)
+  bad = λ three bytes e. subst (IsBadScript bytes) (sym c.in-Err-Bad.line-is)
       (subst (IsNoScriptErr (g.S.Source.left c.args.input.now) (g.S.Source.fault_count c.args.input.now) (g.S.Source.fault_count c.take_script.new.source))
       c.in-Err-Bad.field-0-is c.in-Err-Bad.ensures.refused bytes e);
   bad_only = λ bytes n e bad. inr (inl (refl, c.in-Err-Bad.line-is ∙ subst (IsBadAt n) c.in-Err-Bad.field-0-is (c.in-Err-Bad.ensures.bad bytes n e bad)));

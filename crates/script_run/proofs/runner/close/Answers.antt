@@ -7,7 +7,7 @@ use Rattle.desk.specs.declared.calls.CleanErr.{CleanErr}
 use Rattle.desk.specs.Cleans.{IsCleanRefusal}
 use Rattle.desk.specs.Moments.{moment_of}
 use Rattle.frame_words.specs.Plain.{seen_of}
-use Rattle.script_run.specs.Runs.{IsClosed}
+use Rattle.script_run.specs.Runs.{IsClosingClean}
 use Rattle.script_run.proofs.Framing.{all_told}
 use Rattle.script_run.proofs.Flushing.{runner, write_backs}
 use Rattle.script_run.proofs.runner.close.Goals as goal
@@ -27,7 +27,7 @@ pub returns-clause-closed : goal.returns-clause-closed
 returns-clause-closed g c =
     let old = c.args.desk.now.state in
     let new = c.clean_at.new.self.state in
-    let P : Result (Option FaultAt) OutOfMemory → Type 0 = λ r. IfOk r (λ fault. IsClosed old new fault) in
+    let P : Result (Option FaultAt) OutOfMemory → Type 0 = λ r. IfOk r (λ fault. IsClosingClean old new fault) in
     let m = moment_of seen_of g.R.RedoDisk.seen c.args.desk.now c.args.frames.now c.args.redo.now in
     let n = moment_of seen_of g.R.RedoDisk.seen c.clean_at.new.self c.clean_at.new.frames c.clean_at.new.redo in
     let R : CleanErr → Type 0 = λ e. IsCleanRefusal g.D.PageDisk.seen m n runner 16384 true e in
@@ -45,10 +45,10 @@ returns-clause-closed g c =
       | in-Err-OutOfMemory w ↦ subst P (sym w.result-is) tt
       | in-Err-RedoFault w ↦
           let is = subst R w.in-Err-RedoFault.field-0-is w.in-Err-RedoFault.ensures.answers in
-          let C : FaultAt → Type 0 = λ f. IsClosed old new (Some f) in
+          let C : FaultAt → Type 0 = λ f. IsClosingClean old new (Some f) in
           subst P (sym w.result-is) (subst C (sym w.fault_of.ensures) (record { written = is.1.written; cleaned = is.1.cleaned; most = is.1.most; clean = λ fine. absurd (cc) }))
       | in-Err-DiskFault w ↦
           let is = subst R w.in-Err-DiskFault.field-0-is w.in-Err-DiskFault.ensures.answers in
-          let C : FaultAt → Type 0 = λ f. IsClosed old new (Some f) in
+          let C : FaultAt → Type 0 = λ f. IsClosingClean old new (Some f) in
           subst P (sym w.result-is) (subst C (sym w.fault_of-in-Err-DiskFault.ensures) (record { written = is.1.written; cleaned = is.1.cleaned; most = is.1.most; clean = λ fine. absurd (cc) }))
     ]

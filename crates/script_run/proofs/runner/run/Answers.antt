@@ -1,5 +1,5 @@
 use Rattle.std.proofs.Common.{inl, inr, ◌∙◌, sym, subst}
-use Rattle.script_text.specs.Verdict.{IsBad}
+use Rattle.script_text.specs.Verdict.{IsBadScript}
 use Rattle.script_run.specs.Ends.{IsNoScriptErr, IsBadAt}
 use Rattle.script_run.proofs.Answering.{long_log}
 use Rattle.script_run.proofs.runner.run.Goals as goal
@@ -29,7 +29,7 @@ returns-in-Ok-take_script-clause-bad_script g c = λ three.
 
 pub returns-in-Err-Bad-clause-bad_script : goal.returns-in-Err-Bad-clause-bad_script
 returns-in-Err-Bad-clause-bad_script g c = λ three. inl (
-  (λ bytes e. subst (IsBad bytes) (sym c.bare-in-Err-Bad.ensures.line)
+  (λ bytes e. subst (IsBadScript bytes) (sym c.bare-in-Err-Bad.ensures.line)
       (subst (IsNoScriptErr (g.S.Source.left c.args.script.now) (g.S.Source.fault_count c.args.script.now) (g.S.Source.fault_count c.take_script.new.source))
       c.in-Err-Bad.field-0-is c.in-Err-Bad.ensures.refused bytes e)),
   c.bare-in-Err-Bad.ensures.redo,

@@ -19,13 +19,13 @@ use Rattle.trail.specs.Trails.{Opening, AreNumbered, mark, entries}
 use Rattle.trail.specs.Saved.{AreDurable}
 use Rattle.trail.specs.Dirt.{dirty, log_end}
 use Rattle.desk.specs.Base.{Opened, IsBase}
-use Rattle.desk.specs.Behind.{IsOpening}
+use Rattle.desk.specs.Behind.{IsNewlyOpened}
 use Rattle.frame_words.specs.Plain.{Plain, seen_of}
 use Rattle.instance_lists.specs.Ledger.{IsOneChunk}
 use Rattle.desk.specs.Logged.{IsLogged}
 use Rattle.trail.specs.Book.{book}
 use Rattle.desk.specs.State.{State}
-use Rattle.desk.specs.Steps.{IsFresh, row_in}
+use Rattle.desk.specs.Steps.{IsNewDesk, row_in}
 use Rattle.desk.specs.Tied.{AreTied}
 use Rattle.script_text.specs.Plan.{Plan, first_thread, commands_of}
 use Rattle.script_text.specs.Within.{IsInRange, IsWithin}
@@ -33,7 +33,7 @@ use Rattle.script_text.specs.declared.script.TheConstants.{MOST_CALLS}
 use Rattle.script_text.specs.declared.script.Command.{Command}
 use Rattle.script_text.specs.Grammar.{calls_in, all_calls}
 use Rattle.script_run.specs.Openings.{Start, opening_of, opened_of, AreFaultsWithin}
-use Rattle.script_run.specs.Work.{Working, SoFar, StandsBehind, Worked, IsReady, IsBehindIt, AreInChunk, AreApart}
+use Rattle.script_run.specs.Work.{Working, HasPlayed, StandsBehind, Worked, IsWorkerReady, IsBehindIt, AreInChunk, AreHomesApart}
 use Rattle.script_run.specs.Workers.{working}
 use Rattle.script_run.specs.Runs.{IsDiskOf, KeepsRecords, KeepsRecordsBelow, EndsBehind}
 use Rattle.script_run.proofs.Finished.{so_far_new, finished, Merges}
@@ -47,12 +47,12 @@ none_held xs e = sym (length-reverse xs) ∙ ap (length {A = _}) e
 
 -- a desk with an empty history and its blank frames are ready
 ready_new : {D : Type 0} (seen : D → DiskSeen) (desk : State D) (frames : Plain) → AreTied seen (seen_of frames) desk → desk.history ≡ []
-    → ((f : ℕ) → f < length frames.rows → (row_in frames.rows f).held ≡ Some 0) → IsReady seen desk frames []
+    → ((f : ℕ) → f < length frames.rows → (row_in frames.rows f).held ≡ Some 0) → IsWorkerReady seen desk frames []
 ready_new seen desk frames tied none unfixed = record {
   tied = tied;
   hands = ap (λ (h : List Entry). (book desk.config h).hands) none;
   homes = let H : List Entry → Type 0 = λ h. AreInChunk desk.config h in subst H (sym none) (λ p f here. absurd (cc));
-  apart = let A : List Entry → Type 0 = λ h. AreApart h in subst A (sym none) (λ p q f here there. absurd (cc));
+  apart = let A : List Entry → Type 0 = λ h. AreHomesApart h in subst A (sym none) (λ p q f here there. absurd (cc));
   housed = tt;
   held = unfixed;
   few = omega arith;
@@ -67,7 +67,7 @@ new-requires-clause-start g c κs within =
 pub work-requires-clause-ready : goal.work-requires-clause-ready
 work-requires-clause-ready g c κs within =
     let seen = g.D.PageDisk.seen in
-    let R : List Held → Type 0 = λ fixed. IsReady seen c.in-Ok-new.desk.state c.in_ok-frames.frames fixed in
+    let R : List Held → Type 0 = λ fixed. IsWorkerReady seen c.in-Ok-new.desk.state c.in_ok-frames.frames fixed in
     subst R (sym (ap (λ (w : Working). w.fixed) c.new-pass.ensures))
     (ready_new seen c.in-Ok-new.desk.state c.in_ok-frames.frames c.in_ok-frames.ensures.tied c.in-Ok-new.ensures.fresh.history c.in_ok-frames.ensures.unfixed)
 
@@ -153,24 +153,24 @@ returns-clause-run g c =
     let fault = c.in_ok-fault.fault in
     let last_is : last ≡ new.disk = c.end-disk.ensures.disk in
     let config_is : c.config-config.result.now ≡ plan.config = c.config-config.ensures in
-    let F : Config → Type 0 = λ config. IsFresh c.in-Ok-new.desk.state config 0 disk in
+    let F : Config → Type 0 = λ config. IsNewDesk c.in-Ok-new.desk.state config 0 disk in
     let fresh = subst F config_is c.in-Ok-new.ensures.fresh in
     let merges = c.in_ok-trail.ensures.merged in
     let law : Merges = c.one_trail_is_merged.ensures.only in
     let front = c.dirty_pages_are_apart.ensures.front in
     let spaces_are : (s : ℕ) → (seen last).spaces s ≡ (seen disk).spaces s = λ s.
     ap (λ d. (seen d).spaces s) last_is ∙ c.close.ensures.spaces s ∙ c.in_ok-work.ensures.left.spaces_are s ∙ ap (λ d. (seen d).spaces s) fresh.disk_is in
-    let C : List Command → Type 0 = λ commands. (o : Opening) (begin : Start) (past : List Event) → SoFar seen o begin c.in-Ok-new.desk.state c.in-Ok.redo.seen (working c.new-pass.result) past []
+    let C : List Command → Type 0 = λ commands. (o : Opening) (begin : Start) (past : List Event) → HasPlayed seen o begin c.in-Ok-new.desk.state c.in-Ok.redo.seen (working c.new-pass.result) past []
     → StandsBehind seen o begin c.in-Ok-new.desk.state frames → Worked seen o begin desk was w past commands in
     let done = subst C c.commands.ensures c.in_ok-work.ensures.done in
-    let opened : (o : Opening) (first : PageId → Option Content) → o.config ≡ plan.config → IsBase (seen disk).told start.pages first → IsOpening (opened_of o start first) (seen disk) =
+    let opened : (o : Opening) (first : PageId → Option Content) → o.config ≡ plan.config → IsBase (seen disk).told start.pages first → IsNewlyOpened (opened_of o start first) (seen disk) =
     λ o first config based. record {
       size_is = c.requires.size ∙ ap (λ (x : Config). page_bytes x.page) (sym config);
       pages_are = λ s. ap (λ n. unwrap_or n 0) (spaces_are s);
       told_are = λ p. refl;
       based = based;
     } in
-    let behind : (o : Opened) → IsOpening o (seen disk) → IsBehindIt seen o new c.close.new.frames = λ o opening.
+    let behind : (o : Opened) → IsNewlyOpened o (seen disk) → IsBehindIt seen o new c.close.new.frames = λ o opening.
     c.close.ensures.behind o (c.in_ok-work.ensures.behind o (c.in-Ok-new.ensures.behind o (seen_of frames) opening)) in
     let worked = λ (base : Option (PageId → Option Content)) (based : IfSome base (λ first. IsBase (seen disk).told (pages_in (seen last).spaces) first)).
     let o = opening_of plan.config base in

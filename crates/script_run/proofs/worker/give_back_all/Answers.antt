@@ -1,6 +1,6 @@
 use Rattle.std.proofs.Common.{◌≡◌, ◌∷◌, List, [], length, reverse, rules, refl, ap, ◌∙◌, subst, arith}
 use Rattle.trail.specs.declared.event.Held.{Held}
-use Rattle.script_run.specs.Work.{IsReady}
+use Rattle.script_run.specs.Work.{IsWorkerReady}
 use Rattle.script_run.proofs.Progress.{worked}
 use Rattle.script_run.proofs.worker.give_back_all.Goals as goal
 
@@ -22,7 +22,7 @@ loop-pass-preserved g c =
 pub returns-clause-ready : goal.returns-clause-ready
 returns-clause-ready g c =
     let seen = g.D.PageDisk.seen in
-    let R : List Held → Type 0 = λ fixed. IsReady seen c.args.desk.now.state c.loop-pass.frames (reverse fixed) in
+    let R : List Held → Type 0 = λ fixed. IsWorkerReady seen c.args.desk.now.state c.loop-pass.frames (reverse fixed) in
     subst R (items_none c.loop-pass.pass.fixed.items (search rules)) c.loop-pass.invariant.2
 
 pub returns-clause-done : goal.returns-clause-done

@@ -1,5 +1,5 @@
 use Rattle.std.proofs.Common.{rules, arith, ◌≡◌, ◌∙◌, ◌∷◌, [], ℕ, List, length, None, ◌+◌, refl, ap, subst}
-use Rattle.script_text.specs.Grammar.{IsRefused, Line, Takes, lines_of}
+use Rattle.script_text.specs.Grammar.{IsRefusedLine, Line, Takes, lines_of}
 use Rattle.script_text.specs.Verdict.{IsBadLine}
 use Rattle.script_text.specs.Left.{lines_left, left}
 use Rattle.script_text.proofs.Taking.{Seen, seen_more, seen_all, seen_bad}
@@ -17,7 +17,7 @@ returns-in-Ok-false-clause-bad c = λ n e.
     let draft = c.loop-rest.draft in
     let here : lines_left c.loop-rest.rest ≡ c.next_line.result.0.now ∷ lines_left c.next_line.result.1 = ap lines_left c.in-Some.is ∙ c.next_line.ensures.lines in
     let seen = subst (λ (ls : List (List ℕ)). Seen lines c.loop-rest.number ls draft) here c.loop-rest.invariant.seen in
-    let refused : IsRefused draft c.next_line.result.0.now = subst (λ (good : _). Takes draft c.next_line.result.0.now good c.take_line.new.draft) c.in-Ok-false.field-0-test c.in-Ok-false.ensures in
+    let refused : IsRefusedLine draft c.next_line.result.0.now = subst (λ (good : _). Takes draft c.next_line.result.0.now good c.take_line.new.draft) c.in-Ok-false.field-0-test c.in-Ok-false.ensures in
     let same : c.loop-rest.number + 1 ≡ n = cc in
     subst (λ (k : ℕ). IsBadLine lines k) same (seen_bad _ _ _ _ _ seen refused)
 

@@ -9,7 +9,7 @@ use Rattle.frame_words.specs.Appends.{FitsRefusal}
 use Rattle.frame_words.specs.Rows.{Row}
 use Rattle.desk.specs.Answers.{Uncreated}
 use Rattle.desk.specs.Logged.{create_change}
-use Rattle.desk.specs.Moments.{IsUnderWay, Proceeds, moment, moment_of, log_seen}
+use Rattle.desk.specs.Moments.{IsBetweenSteps, Proceeds, moment, moment_of, log_seen}
 use Rattle.desk.specs.Victims.{IsHad}
 use Rattle.desk.specs.declared.calls.CreateErr.{CreateErr}
 use Rattle.desk.proofs.Creating.{length-create}
@@ -98,7 +98,7 @@ returns-in-Ok-append-clause-keeps g c =
     let t = g.F.Frames.seen c.have_frame.new.frames in
     let holds : Holds l.seen (record_of (create_change c.args.page) span.start) span.start = subst (λ (d : List ℕ). Holds l.seen (sealed d span.start) span.start) c.in-Ok.ensures put.record in
     keeps_on S 2 1 _ _ _ c.have_frame.ensures.keeps
-    (keeps_on S 0 1 _ (moment old t l) _ (keeps_log S (IsUnderWay S c.args.by) old t _ l c.have_frame.ensures.keeps.rest log.later log.disk.1 log.kept)
+    (keeps_on S 0 1 _ (moment old t l) _ (keeps_log S (IsBetweenSteps S c.args.by) old t _ l c.have_frame.ensures.keeps.rest log.later log.disk.1 log.kept)
     (c.make.ensures.keeps l holds (omega (arith, put.span.within))))
 
 pub returns-in-Ok-append-clause-answers : goal.returns-in-Ok-append-clause-answers

@@ -10,7 +10,7 @@ use Rattle.frame_words.specs.Rows.{published_row}
 use Rattle.frame_words.specs.Seen.{FramesSeen, row_at}
 use Rattle.desk.specs.Ledger.{entry_behind}
 use Rattle.desk.specs.Loads.{IsOneMore}
-use Rattle.desk.specs.Moments.{IsUnderWay, moment, Follows}
+use Rattle.desk.specs.Moments.{IsBetweenSteps, moment, Follows}
 use Rattle.desk.specs.Steps.{next_entry}
 use Rattle.desk.proofs.Coming.{follows_on, follows_row, came_one}
 use Rattle.desk.proofs.Fixing.{one_more, leaves_told, settled_loaded}
@@ -108,7 +108,7 @@ returns-in-Err-DiskFault-clause-keeps g c = λ l.
     let t = g.F.Frames.seen c.read_in.new.frames in
     let r = c.read_in.ensures in
     keeps_on S 0 1 (moment old s l) (moment mid t l) _
-    (keeps_read S (IsUnderWay S c.args.by) old mid s t l r.reads c.in-Err-DiskFault.ensures.err (read_under_way S old mid s t c.args.by r.reads c.in-Err-DiskFault.ensures.err r.tied c.requires.rest) r.behind) (c.refuse.ensures.keeps l tt)
+    (keeps_read S (IsBetweenSteps S c.args.by) old mid s t l r.reads c.in-Err-DiskFault.ensures.err (read_under_way S old mid s t c.args.by r.reads c.in-Err-DiskFault.ensures.err r.tied c.requires.rest) r.behind) (c.refuse.ensures.keeps l tt)
 
 pub refuse-requires-in-Err-BadPage-clause-rest : goal.refuse-requires-in-Err-BadPage-clause-rest
 refuse-requires-in-Err-BadPage-clause-rest g c = λ κs within. read_under_way g.D.PageDisk.seen c.args.self.now.state c.read_in.new.self.state (g.F.Frames.seen c.args.frames.now) (g.F.Frames.seen c.read_in.new.frames) c.args.by c.read_in.ensures.reads c.in-Err-BadPage.ensures.err c.read_in.ensures.tied c.requires.rest
@@ -129,4 +129,4 @@ returns-in-Err-BadPage-clause-keeps g c = λ l.
     let t = g.F.Frames.seen c.read_in.new.frames in
     let r = c.read_in.ensures in
     keeps_on S 0 1 (moment old s l) (moment mid t l) _
-    (keeps_read S (IsUnderWay S c.args.by) old mid s t l r.reads c.in-Err-BadPage.ensures.err (read_under_way S old mid s t c.args.by r.reads c.in-Err-BadPage.ensures.err r.tied c.requires.rest) r.behind) (c.refuse-in-Err-BadPage.ensures.keeps l tt)
+    (keeps_read S (IsBetweenSteps S c.args.by) old mid s t l r.reads c.in-Err-BadPage.ensures.err (read_under_way S old mid s t c.args.by r.reads c.in-Err-BadPage.ensures.err r.tied c.requires.rest) r.behind) (c.refuse-in-Err-BadPage.ensures.keeps l tt)

@@ -1,17 +1,10 @@
-use Rattle.std.proofs.Common.{◌≡◌, ◌+◌, ◌∷◌, refl, sym, subst, reverse}
-use Rattle.trail.specs.Trails.{mark}
-use Rattle.instance_lists.specs.Ledger.{Ledger}
-use Rattle.instance_lists.proofs.ListsKept.{kept_as, kept_quiet, pushed}
+use Rattle.std.proofs.Common.{refl}
+use Rattle.instance_lists.proofs.ListsKept.{kept_as, kept_quiet, pushed, next_place}
 use Rattle.instance_lists.proofs.lists.InstanceLists.append_quiet.Goals as goal
 
 pub invariant_of-self : goal.invariant_of-self
-invariant_of-self c =
-    let s = c.self.inside in
-    let h = reverse s.history.items in
-    let e = c.args.entry in
-    let k = c.self.invariant.0 in
-    let grown = pushed s.history.items c.push_kept.new.items.items e c.push_kept.ensures.items in
-    let place : e.place ≡ mark s.config.first h + 1 = subst (λ (l : Ledger). e.place ≡ mark l.config.first l.history + 1) (sym c.self.view_is) c.requires.place in (
-      kept_as _ (e ∷ h) _ _ _ _ _ _ _ _ _ _ _ _ _ _ _ grown refl refl refl refl refl refl (kept_quiet _ h _ _ _ _ _ _ _ _ k e place c.requires.quiet),
-      c.self.invariant.1,
-    )
+invariant_of-self c = (
+  kept_as (pushed c.self.inside.history.items c.push_kept.ensures.items) refl refl refl refl refl refl
+      (kept_quiet c.self.invariant.0 c.args.entry (next_place c.self.view_is c.args.entry c.requires.place) c.requires.quiet),
+  c.self.invariant.1,
+)

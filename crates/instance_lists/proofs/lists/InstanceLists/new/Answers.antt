@@ -14,7 +14,7 @@ invariant_of-result c =
     let tenants : length c.in_ok-vec.field-0.items ≡ config.frames = search rules in
     let newest : c.in_ok-vec-2.field-0.items ≡ replicate config.frames None = search rules in
     let history : reverse c.new.result.items ≡ [] = ap reverse c.new.ensures.items in (
-      kept_as config [] (reverse c.new.result.items) _ _ _ _ _ _ _ _ _ _ _ _ _ _ history refl refl refl refl refl refl
+      kept_as history refl refl refl refl refl refl
           (kept_new config (home hash.field-0) c.in_ok-vec.field-0.items c.in_ok-free_frames.field-0.items _ _ lru _ c.requires.start.one hash.ensures.empty tenants c.in_ok-free_frames.ensures.items
           (ap (λ (v : View). v.numbers) grown ∙ ap (λ (v : View). v.numbers) c.new-lru.ensures)
           (ap (λ (v : View). v.order) grown ∙ ap (λ (v : View). v.order) c.new-lru.ensures)

@@ -1,12 +1,11 @@
 use Rattle.std.proofs.Common.{◌≡◌, ◌∙◌, ◌<◌, ◌≤◌, ◌∷◌, [], List, None, arith, ap, subst, sym, reverse, length, IsSome}
 use Rattle.std.specs.Prelude.{is_some}
-use Rattle.page_ids.specs.declared.ids.PageId.{PageId}
 use Rattle.trail.specs.declared.event.Dirty.{Dirty}
 use Rattle.trail.specs.History.{home}
 use Rattle.trail.specs.Dirt.{dirty, log_end}
 use Rattle.instance_lists.specs.Ledger.{Ledger}
 use Rattle.instance_lists.proofs.Dirt.{no_way}
-use Rattle.instance_lists.proofs.ListsFlush.{none_first, tail_below, tail_soiled, oldest_is, read_at}
+use Rattle.instance_lists.proofs.ListsFlush.{none_first, tail_below, tail_soiled, oldest_is, read_at, tenant_at}
 use Rattle.instance_lists.proofs.lists.InstanceLists.oldest.Goals as goal
 
 pub returns-in_err-frame-clause-none : goal.returns-in_err-frame-clause-none
@@ -40,9 +39,6 @@ index-requires-2 c =
     let below = tail_below s.config (reverse s.history.items) _ s.tenants.items s.newest.items s.flush k.homed k.soiled c.in_ok-frame.frame (sym c.tail.ensures.tail ∙ c.in_ok-frame.was) in
     omega (arith, below, k.homed.tenant_count)
 
-abbrev nowhere : PageId
-nowhere = record { space = 0; page = 0 }
-
 pub returns : goal.returns
 returns c =
     let s = c.self.inside in
@@ -54,7 +50,7 @@ returns c =
     let oldest = c.in_ok-oldest.oldest in
     let tail = sym c.tail.ensures.tail ∙ c.in_ok-frame.was in
     let below = tail_below s.config h _ s.tenants.items s.newest.items s.flush k.homed k.soiled f tail in
-    let own = read_at s.tenants.items f nowhere page c.index-2.ensures (omega (arith, below, k.homed.tenant_count)) in
+    let own = tenant_at s.tenants.items f page c.index-2.ensures (omega (arith, below, k.homed.tenant_count)) in
     let last = sym (read_at s.newest.items f None c.index.result.now c.index.ensures (omega (arith, below, k.soiled.newest_count))) ∙ c.in_ok-newest.was in
     let told = oldest_is s.config h _ s.tenants.items s.newest.items s.flush k.homed k.soiled f page oldest newest tail own (sym c.oldest.ensures.oldest ∙ c.in_ok-oldest.was) last in
     record {

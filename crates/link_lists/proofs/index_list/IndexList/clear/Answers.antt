@@ -6,7 +6,7 @@ pub returns : goal.returns
 returns c =
     let a = c.self.inside in
     let k = c.self.invariant in
-    seen a.nodes _ [] (c.new-self-inside.ensures.empty a.nodes (omega (arith, k.chain.pair))) _ (room_is a c.args.self.now c.self.view_is k)
+    seen a.nodes _ [] (c.new-self-inside.ensures.empty a.nodes (omega (arith, k.chain.pair))) _ (room_is c.self.view_is k)
 
 pub invariant_of-self : goal.invariant_of-self
 invariant_of-self c =

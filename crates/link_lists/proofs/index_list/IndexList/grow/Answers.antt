@@ -10,8 +10,8 @@ returns-clause-ok c =
     let a = c.self.inside in
     let l = c.args.self.now in
     let grown = c.in_ok-grow.ensures.grown in
-    seen c.grow.new.self a.chain l.items (grown.chains a.chain l.items (chain_is a l c.self.view_is c.self.invariant)) _
-    (grown.nodes ∙ ap (λ n. max n c.args.n) (room_is a l c.self.view_is c.self.invariant))
+    seen c.grow.new.self a.chain l.items (grown.chains a.chain l.items (chain_is c.self.view_is c.self.invariant)) _
+    (grown.nodes ∙ ap (λ n. max n c.args.n) (room_is c.self.view_is c.self.invariant))
 
 pub invariant_of-self : goal.invariant_of-self
 invariant_of-self c =
@@ -25,4 +25,4 @@ invariant_of-self-2 c =
     let k = c.self.invariant in
     let grown = c.in_ok-grow.ensures.grown in
     let most : max a.nodes.nodes c.args.n ≤ 4294967295 = max-le (omega (arith, k.fits)) (omega (arith, c.ranges.n.fits)) in
-    kept c.grow.new.self a.chain l.items (grown.chains a.chain l.items (chain_is a l c.self.view_is k)) a.len (len_is a l c.self.view_is k) (omega (arith, grown.nodes, most))
+    kept c.grow.new.self a.chain l.items (grown.chains a.chain l.items (chain_is c.self.view_is k)) a.len (len_is c.self.view_is k) (omega (arith, grown.nodes, most))

@@ -4,15 +4,11 @@ use Rattle.link_lists.proofs.index_list.IndexList.push_front.Goals as goal
 
 pub overflow_add-self : goal.overflow_add-self
 overflow_add-self c =
-    let chain = chain_is c.self.inside c.args.self.now c.self.view_is c.self.invariant in
-    omega (arith, longer c.self.inside c.args.self.now c.self.view_is c.self.invariant _ _ _ (c.push_front.ensures.list c.args.self.now.items chain) (omega arith) (c.push_front.ensures.others c.args.self.now.items chain).nodes)
+    let chain = chain_is c.self.view_is c.self.invariant in
+    omega (arith, longer c.self.view_is c.self.invariant (c.push_front.ensures.list c.args.self.now.items chain) (omega arith) (c.push_front.ensures.others c.args.self.now.items chain).nodes)
 
 pub returns : goal.returns
-returns c =
-    let chain = chain_is c.self.inside c.args.self.now c.self.view_is c.self.invariant in
-    seen_then c.self.inside c.args.self.now c.self.view_is c.self.invariant _ _ _ (c.push_front.ensures.list c.args.self.now.items chain) (c.push_front.ensures.others c.args.self.now.items chain).nodes
+returns c = seen_then c.self.view_is c.self.invariant (c.push_front.ensures.list c.args.self.now.items (chain_is c.self.view_is c.self.invariant)) (c.push_front.ensures.others c.args.self.now.items (chain_is c.self.view_is c.self.invariant)).nodes
 
 pub invariant_of-self : goal.invariant_of-self
-invariant_of-self c =
-    let chain = chain_is c.self.inside c.args.self.now c.self.view_is c.self.invariant in
-    kept_then c.self.inside c.args.self.now c.self.view_is c.self.invariant _ _ _ (c.push_front.ensures.list c.args.self.now.items chain) (c.push_front.ensures.others c.args.self.now.items chain).nodes _ (omega (arith, len_is c.self.inside c.args.self.now c.self.view_is c.self.invariant))
+invariant_of-self c = kept_then c.self.view_is c.self.invariant (c.push_front.ensures.list c.args.self.now.items (chain_is c.self.view_is c.self.invariant)) (c.push_front.ensures.others c.args.self.now.items (chain_is c.self.view_is c.self.invariant)).nodes (omega (arith, len_is c.self.view_is c.self.invariant))

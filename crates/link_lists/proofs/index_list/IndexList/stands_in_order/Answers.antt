@@ -7,8 +7,8 @@ pub returns : goal.returns
 returns c =
     let a = c.self.inside in
     let l = c.args.self.now in
-    let chain = chain_is a l c.self.view_is c.self.invariant in
-    let room = room_is a l c.self.view_is c.self.invariant in record {
+    let chain = chain_is c.self.view_is c.self.invariant in
+    let room = room_is c.self.view_is c.self.invariant in record {
       once = chain.once;
       below = λ x there. omega (arith, room, exists a.nodes a.chain l.items x chain there);
       few = omega (arith, room, few a.nodes a.chain l.items chain);

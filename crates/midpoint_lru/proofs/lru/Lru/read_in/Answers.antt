@@ -3,7 +3,7 @@ use Rattle.std.specs.Prelude.{insert}
 use Rattle.page_ids.specs.Midpoint.{Listed, place_of, read_in}
 use Rattle.midpoint_lru.specs.View.{View}
 use Rattle.midpoint_lru.specs.Parts.{Parts}
-use Rattle.midpoint_lru.specs.Inside.{AreFrames}
+use Rattle.midpoint_lru.specs.Inside.{AreListedOnce}
 use Rattle.midpoint_lru.proofs.Frames.{frames-read_in}
 use Rattle.midpoint_lru.proofs.Rules.{frames_of, room_is, evicts_is, seen, exact_settled}
 use Rattle.midpoint_lru.proofs.lru.Lru.read_in.Goals as goal
@@ -35,5 +35,5 @@ invariant_of-self c = record {
   percent = c.self.invariant.percent;
   counted = c.self.invariant.counted;
   exact = exact_settled c.self.inside c.settle.new.self c.put_between.new.self _ _ c.settle.ensures c.old_length-old.ensures.old c.len.ensures.len;
-  frames = subst AreFrames (sym (returns c)) (frames-read_in c.args.self.now c.args.frame (frames_of c.self.inside c.args.self.now c.self.view_is c.self.invariant) c.requires);
+  frames = subst AreListedOnce (sym (returns c)) (frames-read_in c.args.self.now c.args.frame (frames_of c.self.inside c.args.self.now c.self.view_is c.self.invariant) c.requires);
 }

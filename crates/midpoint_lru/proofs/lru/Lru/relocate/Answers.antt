@@ -2,7 +2,7 @@ use Rattle.std.proofs.Common.{◌≡◌, ◌∙◌, ◌==◌, length, sym, ap, s
 use Rattle.page_ids.specs.Midpoint.{relocate}
 use Rattle.midpoint_lru.specs.View.{View}
 use Rattle.midpoint_lru.specs.Parts.{Parts}
-use Rattle.midpoint_lru.specs.Inside.{view_of, AreFrames}
+use Rattle.midpoint_lru.specs.Inside.{view_of, AreListedOnce}
 use Rattle.page_ids.proofs.midpoint.Order.{length-relocate}
 use Rattle.midpoint_lru.proofs.Frames.{frames-relocate}
 use Rattle.midpoint_lru.proofs.Rules.{frames_of, there_is, evicts_is, seen, exact_still, relocated_is}
@@ -27,5 +27,5 @@ invariant_of-self c =
       percent = c.self.invariant.percent;
       counted = c.self.invariant.counted;
       exact = exact_still c.self.inside c.replace.new.self c.self.invariant (ap (λ (q : Parts). q.old_len) replaced) same;
-      frames = subst AreFrames (sym (returns c)) (frames-relocate v c.args.old c.args.new (frames_of c.self.inside v c.self.view_is c.self.invariant) c.requires.listed c.requires.new);
+      frames = subst AreListedOnce (sym (returns c)) (frames-relocate v c.args.old c.args.new (frames_of c.self.inside v c.self.view_is c.self.invariant) c.requires.listed c.requires.new);
     }

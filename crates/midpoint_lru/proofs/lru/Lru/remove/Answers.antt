@@ -2,7 +2,7 @@ use Rattle.std.proofs.Common.{◌≡◌, ◌∙◌, ◌+◌, ◌==◌, ℕ, sym,
 use Rattle.page_ids.specs.Midpoint.{evict}
 use Rattle.midpoint_lru.specs.View.{View}
 use Rattle.midpoint_lru.specs.Parts.{Parts}
-use Rattle.midpoint_lru.specs.Inside.{AreFrames}
+use Rattle.midpoint_lru.specs.Inside.{AreListedOnce}
 use Rattle.midpoint_lru.proofs.Frames.{frames-evict}
 use Rattle.midpoint_lru.proofs.Rules.{frames_of, evicts_is, seen, exact_settled}
 use Rattle.midpoint_lru.proofs.lru.Lru.remove.Goals as goal
@@ -22,5 +22,5 @@ invariant_of-self c = record {
   percent = c.self.invariant.percent;
   counted = omega (arith, c.requires.few, evicts_is c.self.inside c.args.self.now c.self.view_is);
   exact = exact_settled c.self.inside c.settle.new.self c.take.new.self _ _ c.settle.ensures c.old_length-old.ensures.old c.len.ensures.len;
-  frames = subst AreFrames (sym (returns c)) (frames-evict c.args.self.now c.args.frame (frames_of c.self.inside c.args.self.now c.self.view_is c.self.invariant) c.requires.listed);
+  frames = subst AreListedOnce (sym (returns c)) (frames-evict c.args.self.now c.args.frame (frames_of c.self.inside c.args.self.now c.self.view_is c.self.invariant) c.requires.listed);
 }

@@ -3,7 +3,7 @@ use Rattle.std.specs.Prelude.{remove, slice_get, slice_set}
 use Rattle.page_ids.specs.Midpoint.{Listed, place_of, touch}
 use Rattle.midpoint_lru.specs.View.{View}
 use Rattle.midpoint_lru.specs.Parts.{Parts}
-use Rattle.midpoint_lru.specs.Inside.{view_of, AreFrames}
+use Rattle.midpoint_lru.specs.Inside.{view_of, AreListedOnce}
 use Rattle.page_ids.proofs.midpoint.Order.{length-touch}
 use Rattle.midpoint_lru.specs.declared.lru.Touch.{Touch}
 use Rattle.midpoint_lru.specs.declared.lru.Touch.TheVariants.{Stayed, Young}
@@ -70,7 +70,7 @@ invariant_of-self c = record {
   percent = c.self.invariant.percent;
   counted = c.self.invariant.counted;
   exact = exact_settled c.self.inside c.settle.new.self c.put_first.new.self _ _ c.settle.ensures c.old_length-old.ensures.old c.len.ensures.len;
-  frames = subst AreFrames (sym (returns-then-moves-clause-order c)) (frames-touch c.args.self.now c.args.frame c.args.now (frames_of c.self.inside c.args.self.now c.self.view_is c.self.invariant));
+  frames = subst AreListedOnce (sym (returns-then-moves-clause-order c)) (frames-touch c.args.self.now c.args.frame c.args.now (frames_of c.self.inside c.args.self.now c.self.view_is c.self.invariant));
 }
 
 pub invariant_of-self-else-moves : goal.invariant_of-self-else-moves
@@ -83,5 +83,5 @@ invariant_of-self-else-moves c =
       percent = c.self.invariant.percent;
       counted = c.self.invariant.counted;
       exact = exact_still c.self.inside c.set_first.new.self c.self.invariant (ap (λ (q : Parts). q.old_len) (c.set_first.ensures _ found)) same;
-      frames = subst AreFrames (sym is) (frames-touch v c.args.frame c.args.now (frames_of c.self.inside v c.self.view_is c.self.invariant));
+      frames = subst AreListedOnce (sym is) (frames-touch v c.args.frame c.args.now (frames_of c.self.inside v c.self.view_is c.self.invariant));
     }

@@ -1,14 +1,14 @@
 use Rattle.std.proofs.Common.{rules, ◌≡◌, ◌-◌, ◌+◌, ◌++◌, ◌∙◌, ℕ, List, length, take, drop, ap, sym, subst, arith}
 use Rattle.std.specs.Prelude.{replicate}
 use Rattle.std.proofs.lemmas.List.{take_all, drop-replicate}
-use Rattle.page_disk.specs.MemoryDisks.{size_of, kept_of, bytes_of, IsSized}
+use Rattle.page_disk.specs.MemoryDisks.{size_of, kept_of, bytes_of, AreKeptSized}
 use Rattle.page_disk.proofs.Kept.{bytes_sized}
 use Rattle.page_disk.proofs.disk_memory.DiskMemory.append_rest.Goals as goal
 
 pub slice_bounds-extend_from_slice-count : goal.slice_bounds-extend_from_slice-count
 slice_bounds-extend_from_slice-count c =
     let now = c.args.self.now in
-    let sized : IsSized (size_of now) now.kept = subst (λ d. IsSized (size_of d) d.kept) c.self.view_is c.self.invariant in
+    let sized : AreKeptSized (size_of now) now.kept = subst (λ d. AreKeptSized (size_of d) d.kept) c.self.view_is c.self.invariant in
     let is : c.deref.result.now ≡ bytes_of now c.args.page = search rules in
     omega (arith, c.requires, ap length is, bytes_sized (size_of now) (kept_of now.kept c.args.page) (sized c.args.page))
 

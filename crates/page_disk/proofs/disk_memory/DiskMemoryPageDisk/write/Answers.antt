@@ -1,5 +1,5 @@
 use Rattle.std.proofs.Common.{rules, ◌≡◌, ◌++◌, false, length, take, drop, sym, subst, ◌∙◌}
-use Rattle.page_disk.specs.MemoryDisks.{IsKept, IsSized, kept_of, bytes_of, whole, size_of}
+use Rattle.page_disk.specs.MemoryDisks.{IsKept, AreKeptSized, kept_of, bytes_of, whole, size_of}
 use Rattle.page_disk.proofs.Kept.{bytes_sized, over_all, told_whole}
 use Rattle.page_disk.proofs.disk_memory.DiskMemoryPageDisk.write.Goals as goal
 
@@ -12,7 +12,7 @@ put_whole c =
     let most = c.put_len-most.result in
     let front = take most bytes in
     let all : most ≡ length bytes = search rules in
-    let sized : IsSized (size_of now) now.kept = subst (λ d. IsSized (size_of d) d.kept) c.self.view_is c.self.invariant in
+    let sized : AreKeptSized (size_of now) now.kept = subst (λ d. AreKeptSized (size_of d) d.kept) c.self.view_is c.self.invariant in
     let long : length before ≡ length bytes = bytes_sized (size_of now) (kept_of now.kept c.args.page) (sized c.args.page) ∙ sym c.requires.size in
     let put : IsKept c.args.page (record { bytes = front ++ drop (length front) before; torn = false }) now.kept c.put.new.self.kept = search rules in
     subst (λ xs. IsKept c.args.page (whole xs) now.kept c.put.new.self.kept) (over_all most bytes before all long) put

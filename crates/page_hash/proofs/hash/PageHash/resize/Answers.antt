@@ -1,8 +1,8 @@
 use Rattle.std.proofs.Common.{◌≡◌, ◌∙◌, length, max, None, refl, sym, ap, subst, arith}
 use Rattle.link_lists.specs.Grid.{Grid}
 use Rattle.page_hash.specs.Cells.{AreFiled}
-use Rattle.page_hash.specs.View.{page_in, IsResized}
-use Rattle.page_hash.specs.Inside.{AreApart}
+use Rattle.page_hash.specs.View.{page_in, IsRoomChanged}
+use Rattle.page_hash.specs.Inside.{AreFramesApart}
 use Rattle.page_hash.proofs.Homes.{resized}
 use Rattle.page_hash.proofs.hash.PageHash.resize.Goals as goal
 
@@ -27,7 +27,7 @@ invariant_of-self c =
       some = k.some;
       fits = omega (arith, k.fits, ap length e);
       nodes = k.nodes ∙ sym (ap length e);
-      apart = subst (λ xs. AreApart xs) (sym e) k.apart;
+      apart = subst (λ xs. AreFramesApart xs) (sym e) k.apart;
       filed = subst (λ xs. AreFiled c.self.inside.nodes c.self.inside.cells.items (page_in xs)) (sym e) k.filed;
     }
 
@@ -50,4 +50,4 @@ returns-clause-ok c =
     let e = c.in_ok-resize.ensures in
     let done = resized c.self.inside.pages.items c.resize.new.self.items c.self.inside.pages.len c.max-room.result c.self.inside.pages.ok.0 (omega (arith, e.len, c.resize.new.self.ok.0)) (omega (arith, c.max-room.ensures, c.len.ensures)) c.self.invariant.apart (λ f. e.by_index.0 f None) (λ f. e.by_index.1 f None refl) in
     let frames : c.max-room.result ≡ max (length c.args.self.now) c.args.frames = omega (arith, c.max-room.ensures, c.len.ensures, c.self.inside.pages.ok.0, ap length c.self.view_is) in
-    subst (λ xs. IsResized xs c.resize.new.self.items (max (length c.args.self.now) c.args.frames)) c.self.view_is (subst (λ n. IsResized c.self.inside.pages.items c.resize.new.self.items n) frames done.1)
+    subst (λ xs. IsRoomChanged xs c.resize.new.self.items (max (length c.args.self.now) c.args.frames)) c.self.view_is (subst (λ n. IsRoomChanged c.self.inside.pages.items c.resize.new.self.items n) frames done.1)

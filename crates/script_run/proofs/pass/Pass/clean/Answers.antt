@@ -12,7 +12,7 @@ use Rattle.desk.specs.Moments.{moment_of}
 use Rattle.frame_words.specs.Plain.{seen_of}
 use Rattle.script_text.specs.declared.script.Command.TheVariants as command
 use Rattle.script_run.specs.Openings.{Start}
-use Rattle.script_run.specs.Work.{Working, SoFar, Does, Along, with_answer}
+use Rattle.script_run.specs.Work.{Working, HasPlayed, Does, Along, with_answer}
 use Rattle.script_run.specs.Workers.{working}
 use Rattle.script_run.proofs.Growing.{me, Moves, room_of}
 use Rattle.script_run.proofs.Framing.{all_told}
@@ -79,8 +79,8 @@ returns-clause-done g c =
     let m = moment_of seen_of g.R.RedoDisk.seen c.args.desk.now c.args.frames.now c.args.redo.now in
     let n = moment_of seen_of g.R.RedoDisk.seen c.clean_at.new.self c.clean_at.new.frames c.clean_at.new.redo in
     let R : CleanErr → Type 0 = λ x. IsCleanRefusal seen m n (me w) c.args.bound false x in
-    let W : Working → Type 0 = λ v. (o : Opening) (start : Start) (past : List Event) → SoFar seen o start old was w past [] → Does seen o start new is v past (command.Clean c.args.bound) in
-    let moves : (o : Opening) (start : Start) (past : List Event) → SoFar seen o start old was w past [] → Moves seen old new was is =
+    let W : Working → Type 0 = λ v. (o : Opening) (start : Start) (past : List Event) → HasPlayed seen o start old was w past [] → Does seen o start new is v past (command.Clean c.args.bound) in
+    let moves : (o : Opening) (start : Start) (past : List Event) → HasPlayed seen o start old was w past [] → Moves seen old new was is =
     λ o start past so. record { left = e.keeps.desk; later = e.keeps.later.faults; logged = e.keeps.logged so.logged } in
     let front = c.dirty_pages_are_apart.ensures.front in
     elim c.match-clean_at.branch [

@@ -5,7 +5,7 @@ use Rattle.trail.specs.declared.event.Note.{Note}
 use Rattle.trail.specs.declared.event.Note.TheVariants as note
 use Rattle.trail.specs.Calls.{given_back}
 use Rattle.frame_words.specs.Plain.{Plain}
-use Rattle.script_run.specs.Work.{Working, Ending, IsReady, IsBehindIt, noted_at, with_note, given_at}
+use Rattle.script_run.specs.Work.{Working, Ending, IsWorkerReady, IsBehindIt, noted_at, with_note, given_at}
 use Rattle.script_run.specs.Workers.{working}
 use Rattle.script_run.proofs.Fixes.{reverse-push}
 use Rattle.script_run.proofs.Framing.{ready_given, behind_given, rest_mid, some_held}
@@ -37,7 +37,7 @@ returns-clause-ready g c =
     let desk = c.args.desk.now.state in
     let h : Held = c.in-Some.held in
     let rest = c.pop.new.self.items in
-    let R : Plain → List Held → Type 0 = λ frames fixed. IsReady seen desk frames fixed in
+    let R : Plain → List Held → Type 0 = λ frames fixed. IsWorkerReady seen desk frames fixed in
     let ready = ready_given seen desk c.args.frames.now [] h (reverse rest) (subst (λ held. R c.args.frames.now held) (first_fix rest h c.args.self.now.fixed.items _ c.pop.ensures.items c.in-Some.is) c.requires.ready) in
     subst (λ frames. R frames (reverse c.note.new.self.fixed.items)) (sym c.let_go.ensures) (subst (λ held. R (given_at c.args.frames.now h.frame) held) (ap (λ v. reverse v.items) (sym c.note.ensures.fixed)) ready)
 
@@ -52,7 +52,7 @@ let_go-requires-clause-rest g c =
     let seen = g.D.PageDisk.seen in
     let h : Held = c.in-Some.held in
     let rest = c.pop.new.self.items in
-    let R : List Held → Type 0 = λ fixed. IsReady seen c.args.desk.now.state c.args.frames.now fixed in
+    let R : List Held → Type 0 = λ fixed. IsWorkerReady seen c.args.desk.now.state c.args.frames.now fixed in
     rest_mid seen c.args.desk.now.state c.args.frames.now [] h (reverse rest) (subst R (first_fix rest h c.args.self.now.fixed.items _ c.pop.ensures.items c.in-Some.is) c.requires.ready)
 
 pub let_go-requires-clause-held : goal.let_go-requires-clause-held
@@ -60,5 +60,5 @@ let_go-requires-clause-held g c =
     let seen = g.D.PageDisk.seen in
     let h : Held = c.in-Some.held in
     let rest = c.pop.new.self.items in
-    let R : List Held → Type 0 = λ fixed. IsReady seen c.args.desk.now.state c.args.frames.now fixed in
+    let R : List Held → Type 0 = λ fixed. IsWorkerReady seen c.args.desk.now.state c.args.frames.now fixed in
     some_held seen c.args.desk.now.state c.args.frames.now [] h (reverse rest) (subst R (first_fix rest h c.args.self.now.fixed.items _ c.pop.ensures.items c.in-Some.is) c.requires.ready)

@@ -2,7 +2,7 @@ use Rattle.std.proofs.Common.{◌≡◌, ◌≤◌, ◌+◌, length}
 use Rattle.redo_mark.specs.Device.{Tells}
 use Rattle.redo_mark.specs.Pending.{joined}
 use Rattle.redo_mark.proofs.Telling.{IsWriting}
-use Rattle.redo_mark.proofs.redo.write_through.Given as goal
+use Rattle.redo_mark.proofs.log.write_through.Given as goal
 
 abbrev pub invariant-loop-bytes : goal.invariant-loop-bytes
 invariant-loop-bytes g l =

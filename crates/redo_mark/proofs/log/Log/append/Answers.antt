@@ -4,7 +4,7 @@ use Rattle.redo_mark.specs.Records.{sealed, head_of, record_of}
 use Rattle.redo_mark.specs.Pending.{joined}
 use Rattle.redo_mark.proofs.Chains.{whole_appended}
 use Rattle.redo_mark.proofs.Marks.{joined_more, sealed_size, holds_appended, longer_appended, later_appended, kept_of_log, grown_longer}
-use Rattle.redo_mark.proofs.redo.Redo.append.Goals as goal
+use Rattle.redo_mark.proofs.log.Log.append.Goals as goal
 
 pub returns-then-start-len-clause-kept : goal.returns-then-start-len-clause-kept
 returns-then-start-len-clause-kept g c = rw (← c.self.view_is) (kept_of_log _ _ _ _ (g.R.RedoDisk.seen c.self.inside.disk).faults _ _ c.self.invariant.low c.self.invariant.ends c.self.invariant.settled)
@@ -13,7 +13,7 @@ pub returns-clause-record : goal.returns-clause-record
 returns-clause-record g c =
     let is = joined_more c.self.inside.pending c.seal_node.new.node c.append.new.self (sealed c.args.draft c.self.inside.end) (search rules) (search rules) in
     let size = sealed_size c.args.draft c.self.inside.end c.draft_len-len.result (search rules) in
-    rw (← size) (holds_appended c.self.inside.first c.self.inside.durable c.self.inside.end _ _ _ _ (g.R.RedoDisk.seen c.self.inside.disk).told c.self.inside.pending c.append.new.self
+    rw (← size) (holds_appended c.self.inside.first c.self.inside.durable c.self.inside.end _ _ _ (g.R.RedoDisk.seen c.self.inside.disk).told c.self.inside.pending c.append.new.self
     (sealed c.args.draft c.self.inside.end) c.self.invariant is)
 
 pub returns-clause-exact : goal.returns-clause-exact
@@ -65,7 +65,9 @@ invariant_of-self g c =
       few = omega (arith, sum, same, size, nodes, c.seal_node.ensures.len, c.self.invariant.few);
       reached = c.self.invariant.reached;
       settled = c.self.invariant.settled;
-      grown = grown_longer _ _ _ _ _ _ (omega arith) c.self.invariant.grown;
       whole = whole_appended c.self.inside.first c.self.inside.durable c.self.inside.end _ _ c.self.inside.pending c.append.new.self drafted.1
           c.self.invariant.low c.self.invariant.ends c.self.invariant.settled drafted.4 is c.self.invariant.whole;
     }
+
+pub returns-clause-grown : goal.returns-clause-grown
+returns-clause-grown g c = rw (← c.self.view_is) (λ opening was. grown_longer _ _ _ _ opening _ (omega arith) was)

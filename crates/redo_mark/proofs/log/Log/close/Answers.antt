@@ -1,7 +1,7 @@
 use Rattle.std.proofs.Common.{arith, ap}
 use Rattle.redo_mark.specs.Logs.{IsKept}
 use Rattle.redo_mark.proofs.Marks.{kept_of_log, all_kept_of_log, kept_piece}
-use Rattle.redo_mark.proofs.redo.Redo.close.Goals as goal
+use Rattle.redo_mark.proofs.log.Log.close.Goals as goal
 
 pub returns-clause-kept : goal.returns-clause-kept
 returns-clause-kept g c = rw (← c.self.view_is) (kept_of_log _ _ _ _ (g.R.RedoDisk.seen c.self.inside.disk).faults _ _ c.self.invariant.low c.self.invariant.ends c.self.invariant.settled)
@@ -14,4 +14,5 @@ returns-clause-records g c = λ piece start holds below.
     kept_piece c.args.self.seen _ piece start kept holds (omega (arith, below, mark))
 
 pub returns-clause-all : goal.returns-clause-all
-returns-clause-all g c = rw (← c.self.view_is) (all_kept_of_log _ _ _ _ (g.R.RedoDisk.seen c.self.inside.disk).faults _ _ _ c.self.invariant.low c.self.invariant.settled c.self.invariant.grown)
+returns-clause-all g c = rw (← c.self.view_is) (λ opening was.
+    all_kept_of_log _ _ _ _ (g.R.RedoDisk.seen c.self.inside.disk).faults opening _ _ c.self.invariant.low c.self.invariant.settled was)

@@ -1,7 +1,7 @@
 use Rattle.std.proofs.Common.{arith, ap, length, ◌≡◌}
 use Rattle.redo_mark.specs.Pending.{joined}
 use Rattle.redo_mark.proofs.Marks.{kept_of_log, settled_fresh}
-use Rattle.redo_mark.proofs.redo.Redo.start.Goals as goal
+use Rattle.redo_mark.proofs.log.Log.start.Goals as goal
 
 pub returns-clause-kept : goal.returns-clause-kept
 returns-clause-kept g c =
