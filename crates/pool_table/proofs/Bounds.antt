@@ -1,5 +1,5 @@
 -- How many fixes may be open: 64 in a view, by its own calls, and 64 for each part of the right to make passes in a frame.
-use Rattle.std.proofs.Common.{◌≡◌, ◌≢◌, ℕ, suc, ◌+◌, ◌*◌, ◌<◌, ◌≤◌, Bool, true, false, cond, List, [], ◌∷◌, Option, None, Some, length, refl, sym, ap, ◌∙◌, subst, arith, get_or, nat_eq, eq-eqb}
+use Rattle.std.proofs.Common.{◌≡◌, ◌≢◌, ℕ, suc, ◌+◌, ◌*◌, ◌≤◌, Bool, true, false, cond, List, [], ◌∷◌, Option, None, Some, length, refl, sym, ap, ◌∙◌, subst, arith, nat_eq, eq-eqb}
 use Rattle.std.proofs.lemmas.Bool.Decides.{nat_tests}
 use mathlib.Core.Option.{some}
 use lib.ListN.{get_elem?}
@@ -9,7 +9,6 @@ use Rattle.page_ids.specs.declared.limits.TheConstants.{MOST_FIXES}
 use Rattle.trail.specs.declared.event.Entry.{Entry}
 use Rattle.trail.specs.declared.event.Event.{Event}
 use Rattle.trail.specs.declared.event.Event.TheVariants as event
-use Rattle.trail.specs.declared.event.Cause.{Cause}
 use Rattle.trail.specs.declared.event.Cause.TheVariants as cause
 use Rattle.trail.specs.declared.event.Held as trails
 use Rattle.trail.specs.declared.event.Kind.{Kind}
@@ -20,8 +19,7 @@ use Rattle.trail.specs.Calls.{given_back, held_after_kind, held_after_note, open
 use Rattle.trail.specs.Causes.{IsCausedKind, IsCausedNote, frame_cause, full_cause, resident_cause}
 use Rattle.trail.specs.Trails.{Opening}
 use Rattle.trail_laws.specs.Accounts.{seen_by}
-use Rattle.trail_laws.specs.SoFar.{AreLawfulOf, IsLawfulOf, TellSpaces}
-use Rattle.frame_words.specs.Plain.{Plain}
+use Rattle.trail_laws.specs.SoFar.{AreLawfulOf}
 use Rattle.pool_table.specs.declared.view.Slot.{Slot}
 use Rattle.pool_table.specs.declared.view.View.{View}
 use Rattle.pool_table.specs.Seen.{DeskSeen}

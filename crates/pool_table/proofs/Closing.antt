@@ -1,5 +1,5 @@
 -- What stands behind the entries that end a resize.
-use Rattle.std.proofs.Common.{◌≡◌, ◌≢◌, ◌⊎◌, inl, inr, ⊎_elim, ℕ, ◌+◌, List, [], ◌∷◌, Option, None, Some, refl, sym, ap, ◌∙◌, subst, arith}
+use Rattle.std.proofs.Common.{◌≡◌, inl, inr, ℕ, ◌+◌, List, [], ◌∷◌, Option, None, Some, sym, ap, ◌∙◌, subst, arith}
 use mathlib.Core.Logic.{dite}
 use native.Mathlib.Decide.{ℕ_discrete}
 use Rattle.trail.specs.declared.event.Entry.{Entry}
@@ -9,7 +9,8 @@ use Rattle.trail.specs.declared.event.Kind.TheVariants as kind
 use Rattle.trail.specs.Trails.{caller_of}
 use Rattle.trail.specs.Withdrawal.{IsFollowed}
 use Rattle.trail_laws.specs.Accounts.{with_event}
-use Rattle.trail_laws.specs.Ending.{AreEnded, FollowsNewest}
+use Rattle.trail_laws.specs.Ending.{AreEnded, AreEndedSoFar, FollowsNewest}
+use Rattle.trail_laws.proofs.Following.{AreOthers, ended_on}
 use Rattle.pool_table.specs.Kept.{IsNewestOf, IsRested}
 use Rattle.pool_table.proofs.Events.{with_else, with_here}
 
@@ -56,6 +57,12 @@ note_rests [] accounts x c t by at rested = inl tt
 note_rests (d ∷ h) accounts x c t by at rested = dite (ℕ_discrete d.caller c)
     (λ same. inr (c, at, same))
     (λ apart. inl (subst (λ (l : List Event). IsFollowed l None d d.kind) (sym (with_else x accounts d.caller (λ same. apart (same ∙ by)))) (others_rest (d ∷ h) accounts c t at apart rested)))
+
+-- A receipt of a call that has no entry leaves what the newest entry needs, whoever has the turn.
+pub rests_beside : (h : List Entry) (accounts : ℕ → List Event) (x : Event) (t : ℕ) → AreOthers x h → AreEndedSoFar accounts h → IsRested accounts h t → IsRested (with_event x accounts) h t
+rests_beside [] accounts x t others ended rested = inl tt
+rests_beside (d ∷ h) accounts x t others ended (inl rested) = inl (ended_on x accounts None (d ∷ h) others (rested, ended)).0
+rests_beside (d ∷ h) accounts x t others ended (inr holder) = inr holder
 
 -- Who gives the turn back left nothing that its newest entry needs.
 pub given_rests : (h : List Entry) (accounts : ℕ → List Event) (c : ℕ) (mine : List Event) (t : ℕ) → accounts c ≡ mine → t ≡ c + 1 → IsRested accounts h t → (IsNewestOf c h → FollowsNewest (λ d. mine) None h)

@@ -2,6 +2,7 @@
 use Rattle.std.proofs.Common.{◌≡◌, ◌≢◌, ◌⊎◌, inl, inr, ⊎_elim, ℕ, zero, suc, ◌+◌, ◌<◌, ◌≤◌, Bool, true, false, cond, List, [], ◌∷◌, None, Some, refl, sym, ap, ◌∙◌, subst, arith, get_or, nat_eq, nat_lt, eq-eqb}
 use Rattle.std.proofs.lemmas.Bool.Decides.{nat_tests}
 use Rattle.std.specs.Prelude.{reverse}
+use Rattle.std.specs.List.{AllByRecursion}
 use mathlib.Core.Option.{some, some-injective, some-ne-none}
 use mathlib.Core.Logic.{dite}
 use native.Mathlib.Decide.{ℕ_discrete}
@@ -12,7 +13,10 @@ use Rattle.trail.specs.declared.event.Entry.{Entry}
 use Rattle.trail.specs.declared.event.Event.{Event}
 use Rattle.trail.specs.Laws.{IsLawfulTrail}
 use Rattle.trail.specs.Trails.{own}
-use Rattle.trail_laws.specs.Ending.{AreEnded, FollowsNewest, IsAnswered, IsTrailOf}
+use Rattle.trail.specs.Calls.{calls_of}
+use Rattle.trail_laws.specs.Adding.{IsCalling, IsClosed}
+use Rattle.trail_laws.specs.Ending.{AreEnded, FollowsNewest, IsTrailOf}
+use Rattle.trail_laws.proofs.Calling.{answered_all, answered_none, made_none}
 use Rattle.trail_laws.specs.SoFar.{AreTrueAlone, IsLawfulSoFar}
 use Rattle.trail_laws.proofs.Following.{ended_all}
 use Rattle.trail_laws.proofs.Same.{same_so_far, same_true}
@@ -26,8 +30,10 @@ use Rattle.pool_table.specs.declared.view.View.{View}
 use Rattle.pool_table.specs.Seen.{DeskSeen}
 use Rattle.pool_table.specs.Logged.{KnowsMore}
 use Rattle.pool_table.specs.Views.{account_of, accounts_if, accounts_of}
-use Rattle.pool_table.specs.Ending.{KnowsAll, account_at}
-use Rattle.pool_table.specs.Kept.{parts_of, IsTrueAccount, Fits, HasAccount, IsNewestOf, IsRested, Kept}
+use Rattle.pool_table.specs.Ending.{AreCutShort, KnowsAll, account_at}
+use Rattle.pool_table.specs.Frames.{AreFramesAtRest, AreSettled, AreSized}
+use Rattle.pool_table.specs.Ours.{AreOurEntries, IsOurs}
+use Rattle.pool_table.specs.Kept.{parts_of, AreNumbersOf, HasNoCall, IsTrueAccount, Fits, HasAccount, IsNewestOf, IsRested, Kept}
 use Rattle.pool_table.proofs.Lists.{total_two}
 use Rattle.pool_table.proofs.Closing.{same_ended}
 use Rattle.pool_table.proofs.Events.{logged_on}
@@ -61,6 +67,33 @@ looked_up all c (b ∷ list) each is = cases (nat_eq b.number c) refl (λ n. loo
     cases : (t : Bool) → nat_eq b.number c ≡ t → (b.number ≢ c → account_at list c ≡ all c) → cond t b.mine (account_at list c) ≡ all c
     cases true t rest = sym (each 0 b refl) ∙ ap all (same t)
     cases false t rest = rest (apart t)
+
+-- Of the accounts that a view brings no call is under way, where none of its own is.
+over_of : (known : Known) (h : List Entry) (frames : Plain) (t next maker : ℕ) (accounts : ℕ → List Event) (seat : ℕ → ℕ) (j : ℕ) (v : View) → Fits known h frames t next maker accounts seat j v
+    → (b : Bool) → HasNoCall v.mine → (i : ℕ) (a : Account) → get_elem? (accounts_if b v) i ≡ some a → HasNoCall a.mine
+over_of known h frames t next maker accounts seat j v f true own zero a e = subst (λ (b : Account). HasNoCall b.mine) (some-injective (account_of v) a e) own
+over_of known h frames t next maker accounts seat j v f true own (suc i) a e = (f.keeps.others i a e).1.answered
+over_of known h frames t next maker accounts seat j v f false own i a e = (f.keeps.others i a e).1.answered
+
+over_at : (list : List Account) → ((i : ℕ) (a : Account) → get_elem? list i ≡ some a → HasNoCall a.mine) → (c : ℕ) → HasNoCall (account_at list c)
+over_at [] each c = λ least. let none : 1 ≤ 0 = least in absurd (omega (arith, none))
+over_at (a ∷ list) each c = cases (nat_eq a.number c) (over_at list (λ i b e. each (suc i) b e) c)
+  where
+    cases : (t : Bool) → HasNoCall (account_at list c) → HasNoCall (cond t a.mine (account_at list c))
+    cases true rest = each 0 a refl
+    cases false rest = rest
+
+-- whose newest call is closed may begin the next one
+next_calling : (mine : List Event) → ((k : ℕ) → 1 ≤ k → k < calls_of mine → IsClosed mine k) → HasNoCall mine → IsCalling mine (calls_of mine + 1) []
+next_calling mine closed over = record {
+  first = omega arith;
+  made_are = made_none (calls_of mine + 1) mine (omega arith);
+  count = refl;
+  unanswered = answered_none (calls_of mine + 1) mine (omega arith);
+  closed = λ k least less. dite (ℕ_discrete k (calls_of mine))
+      (λ e. subst (λ (j : ℕ). IsClosed mine j) (sym e) (over (omega (arith, e, least))))
+      (λ n. closed k least (omega (arith, less, n)));
+}
 
 module _ (D : Type 0) (seen : D → DeskSeen) (start : DeskSeen) where
   -- A view with all parts has every account.
@@ -103,34 +136,56 @@ module _ (D : Type 0) (seen : D → DeskSeen) (start : DeskSeen) where
       let is = has_accounts s r id v at all in
       let all_apart = brought_apart r.known r.h r.frames (get_or s.words 1 0) r.next r.maker r.accounts r.seat id v (r.each id v at) in
       let mine : ℕ → List Event = account_at (accounts_of v) in
+      let no_number : (c : ℕ) → AreNumbersOf c s.views = λ c j u there. subst (AllByRecursion (λ (n : ℕ). n ≡ c)) (sym (r.each j u there).bare.numbers) tt in
       let each = true_of r.known r.h r.frames (get_or s.words 1 0) r.next r.maker r.accounts r.seat id v (r.each id v at) v.passes refl in (
         d,
         f.1,
         record {
-          home = record { history = refl; frames_are = refl; opening = home.opening; pages = home.pages; known_is = refl; rest = subst Rattle.pool_table.specs.Frames.AreFramesAtRest (sym home.frames_are) home.rest };
+          home = record {
+            history = refl;
+            frames_are = refl;
+            opening = home.opening;
+            instance = home.instance;
+            pages = home.pages;
+            known_is = refl;
+            rest = subst AreFramesAtRest (sym home.frames_are) home.rest;
+            settled = subst (λ (y : List Entry × Plain). AreSettled y.0 y.1) (λ i. (sym home.history i, sym home.frames_are i)) home.settled;
+            sized = subst (λ (y : List Entry × Plain). AreSized start.opening.config y.0 y.1) (λ i. (sym home.history i, sym home.frames_are i)) home.sized;
+          };
           lawful = subst (λ (l : List Entry). IsLawfulSoFar start.opening start.pages l mine) (sym home.history) (same_so_far start.opening start.pages r.h r.accounts mine is r.laws.so_far);
           callers = record { apart = all_apart v.passes refl; others = others_none (accounts_of v) };
           ended = subst (AreEnded mine None) (sym home.history) (same_ended None r.h r.accounts mine is (ended_all r.h r.accounts (at_rest r.rested) r.laws.ended));
-          words = subst (λ (l : List Entry). AreTrueAlone l mine) (sym home.history) (same_true r.h r.accounts mine is r.words);
+          closed = λ c k least less. subst (λ (l : List Event). IsClosed l k) (sym (is c)) (r.laws.closed c k least (subst (λ (l : List Event). k < calls_of l) (is c) less));
+          over = λ c own. over_at (accounts_of v) (over_of r.known r.h r.frames (get_or s.words 1 0) r.next r.maker r.accounts r.seat id v (r.each id v at) v.passes own) c;
+          ours = record {
+            entries = subst (AreOurEntries start) (sym home.history) r.laws.ours.entries;
+            events = λ c. subst (AllByRecursion (IsOurs start)) (sym (is c)) (r.laws.ours.events c);
+          };
+          words = subst (λ (l : List Entry). AreTrueAlone l mine) (sym home.history) (same_true r.h r.accounts mine is (λ c flush alone. r.words c flush alone (no_number c)));
           log = ap (λ (x : Known). x.log) home.known_is ∙ r.of_log;
           logged = λ i a e. let is = each i a e in logged_on a.redo (Some (seen d).known) a.mine (subst (λ (x : Known). KnowsMore a.redo (Some x)) (sym home.known_is) is.redo) is.logged;
         },
       )
 
--- What is merged from that history and these accounts is a lawful trail, and each caller's own events in it are its account's.
-pub merges : (start d : DeskSeen) (v : View) (past : List Event) → KnowsAll start d v → IsTrailOf start.opening.first d.history (account_at (accounts_of v)) past → ((c : ℕ) → IsAnswered start.opening d.history c (account_at (accounts_of v) c))
+-- What is merged from that history and these accounts is a lawful trail, and each caller's own events in it are its account's. The pass that has all accounts has no
+-- call under way, and of those that were taken in none was; a resize without an answer was cut short.
+pub merges : (start d : DeskSeen) (v : View) (past : List Event) → KnowsAll start d v → IsTrailOf start.opening.first d.history (account_at (accounts_of v)) past → HasNoCall v.mine → AreCutShort start.opening d.history (account_at (accounts_of v))
     → IsLawfulTrail start.opening (record { first = start.opening.first; events = reverse past }) × ((c : ℕ) → own c past ≡ account_at (accounts_of v) c)
-merges start d v past e merged done = (
-  merged_lawful start.opening start.pages d.history (account_at (accounts_of v)) past merged e.lawful e.words (record { answered = done; followed = e.ended }),
+merges start d v past e merged none cut = (
+  merged_lawful start.opening start.pages d.history (account_at (accounts_of v)) past merged e.lawful e.words (record {
+    answered = λ c. answered_all start.opening d.history c (account_at (accounts_of v) c) (calls_of (account_at (accounts_of v) c) + 1)
+        (next_calling (account_at (accounts_of v) c) (e.closed c) (e.over c none)) (cut c);
+    followed = e.ended;
+  }),
   own_account start.opening.first d.history (account_at (accounts_of v)) past merged e.lawful.places.each,
 )
 
 -- Of two passes with different numbers each has its own events in the trail.
 pub two_merge : (start d : DeskSeen) (v : View) (a b : Account) (past : List Event) → accounts_of v ≡ a ∷ b ∷ [] → a.number ≢ b.number → KnowsAll start d v
-    → IsTrailOf start.opening.first d.history (account_at (accounts_of v)) past → ((c : ℕ) → IsAnswered start.opening d.history c (account_at (accounts_of v) c))
+    → IsTrailOf start.opening.first d.history (account_at (accounts_of v)) past → HasNoCall v.mine → AreCutShort start.opening d.history (account_at (accounts_of v))
     → IsLawfulTrail start.opening (record { first = start.opening.first; events = reverse past }) × (own a.number past ≡ a.mine) × (own b.number past ≡ b.mine)
-two_merge start d v a b past two apart e merged done =
-    let m = merges start d v past e merged done in
+two_merge start d v a b past two apart e merged none cut =
+    let m = merges start d v past e merged none cut in
     let here : nat_eq a.number a.number ≡ true = eq-eqb a.number a.number refl in
     let there : nat_eq b.number b.number ≡ true = eq-eqb b.number b.number refl in
     let off : nat_eq a.number b.number ≡ false = grind (arith, nat_tests) in

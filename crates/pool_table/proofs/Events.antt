@@ -1,5 +1,5 @@
--- Accounts with one event more, and the words of callers that are alone.
-use Rattle.std.proofs.Common.{◌≡◌, ◌≢◌, ◌⊎◌, ℕ, ◌≤◌, Bool, true, false, true≢false, cond, List, [], ◌∷◌, Option, None, Some, IfSome, IsSomeAnd, refl, sym, ap, ◌∙◌, arith, nat_eq, eq-eqb, ⊎_elim}
+-- Accounts with one event more, and what the log has of them.
+use Rattle.std.proofs.Common.{◌≡◌, ◌≢◌, ◌⊎◌, ℕ, ◌+◌, ◌<◌, ◌≤◌, Bool, true, false, true≢false, cond, List, [], ◌∷◌, Option, None, Some, IfSome, IsSomeAnd, refl, sym, ap, ◌∙◌, arith, nat_eq, eq-eqb, ⊎_elim}
 use Rattle.std.proofs.lemmas.Bool.Decides.{nat_tests}
 use Rattle.std.specs.Prelude.{Contains}
 use Rattle.std.specs.List.{AllByRecursion}
@@ -14,14 +14,18 @@ use Rattle.trail.specs.declared.event.Kind.TheVariants as kind
 use Rattle.trail.specs.declared.event.Note.{Note}
 use Rattle.trail.specs.declared.event.Note.TheVariants as note
 use Rattle.trail.specs.Alone.{is_of_flush}
-use Rattle.trail.specs.Calls.{held_after_kind, held_after_note, open_fixes}
-use Rattle.trail.specs.Kinds.{Writing, write_in}
-use Rattle.trail.specs.Trails.{caller_of}
-use Rattle.trail_laws.specs.Accounts.{seen_by, with_event}
-use Rattle.trail_laws.specs.SoFar.{AreAlone, AreTrueAlone, AreTrueBy, IsTrueBy, is_of_clean}
+use Rattle.trail.specs.Calls.{calls_of, held_after_kind, held_after_note, open_fixes}
+use Rattle.trail.specs.Kinds.{Writing, kind_answers, write_in}
+use Rattle.trail.specs.Trails.{caller_of, number_of}
+use Rattle.trail_laws.specs.Accounts.{with_event}
+use Rattle.trail_laws.specs.SoFar.{is_of_clean}
+use Rattle.trail_laws.specs.Adding.{IsCalling, IsClosed}
+use Rattle.trail_laws.proofs.Calling.{calling_answer, calling_on}
 use Rattle.trail_laws.proofs.Places.{with_each}
 use Rattle.pool_table.specs.Logged.{HasGone, KnowsMore, log_end_in, record_in}
-use Rattle.pool_table.specs.Kept.{IsLoggedEvent}
+use Rattle.pool_table.specs.Seen.{DeskSeen}
+use Rattle.pool_table.specs.Ours.{AreOurEntries, AreOurs, IsOurs}
+use Rattle.pool_table.specs.Kept.{AreClosed, IsLoggedEvent}
 
 pub off : {A : Type 0} → false ≡ true → A
 off e = absurd (true≢false (sym e))
@@ -39,13 +43,26 @@ tail_all P x accounts d all = cases (nat_eq d (caller_of x)) all
     cases true all = all.1
     cases false all = all
 
--- Words stay true behind an event that tells true ones.
-pub words_added : (h h' : List Entry) (accounts : ℕ → List Event) (x : Event) → ((c d : ℕ) → AreTrueBy c h (accounts d) → AreTrueBy c h' (accounts d))
-    → ((c : ℕ) (flush : Option ℕ) → AreAlone c flush (with_event x accounts) → IsTrueBy c (seen_by x h') (accounts (caller_of x)) x) → AreTrueAlone h accounts → AreTrueAlone h' (with_event x accounts)
-words_added h h' accounts x stay tell words c flush alone =
-    let P : Event → Type 0 = λ e. ((is_of_flush flush e ≡ true) × (is_of_clean e ≡ true)) ⊎ (caller_of e ≡ c) in
-    let was : (d : ℕ) → AreTrueBy c h (accounts d) = words c flush (λ d. tail_all P x accounts d (alone d)) in
-    with_each (λ d mine. AreTrueBy c h' mine) x accounts (tell c flush alone, stay c (caller_of x) (was (caller_of x))) (λ d other. stay c d (was d))
+-- An event of this instance's pages joins the history and its caller's account.
+pub ours_added : (start : DeskSeen) (h h' : List Entry) (accounts : ℕ → List Event) (x : Event) → IsOurs start x → AreOurEntries start h' → AreOurs start h accounts → AreOurs start h' (with_event x accounts)
+ours_added start h h' accounts x here entries ours = record {
+  entries = entries;
+  events = with_each (λ c mine. AllByRecursion (IsOurs start) mine) x accounts (here, ours.events (caller_of x)) (λ d other. ours.events d);
+}
+
+-- Each call but the newest is closed, behind an event too.
+closed_own : (x : Event) (mine : List Event) (n : ℕ) (pending : List Entry) → number_of x ≡ n → IsCalling mine n pending → (k : ℕ) → 1 ≤ k → k < calls_of (x ∷ mine) → IsClosed (x ∷ mine) k
+closed_own (event.Receipt r) mine n pending is calling k least less =
+    let c = calling_answer (event.Receipt r) mine n pending calling is refl in let count : calls_of (event.Receipt r ∷ mine) + 1 ≡ n + 1 = c.count in c.closed k least (omega (arith, count, less))
+closed_own (event.Entry e) mine n pending is calling k least less = cases (kind_answers e.kind) refl
+  where
+    cases : (b : Bool) → kind_answers e.kind ≡ b → IsClosed (event.Entry e ∷ mine) k
+    cases true t = let c = calling_answer (event.Entry e) mine n pending calling is t in let count : calls_of (event.Entry e ∷ mine) + 1 ≡ n + 1 = c.count in c.closed k least (omega (arith, count, less))
+    cases false t = let c = calling_on e mine n pending calling is t in let count : calls_of (event.Entry e ∷ mine) + 0 ≡ n = c.count in c.closed k least (omega (arith, count, less))
+
+pub closed_added : (accounts : ℕ → List Event) (x : Event) (n : ℕ) (pending : List Entry) → number_of x ≡ n → IsCalling (accounts (caller_of x)) n pending → AreClosed accounts → AreClosed (with_event x accounts)
+closed_added accounts x n pending is calling closed =
+    with_each (λ c mine. (k : ℕ) → 1 ≤ k → k < calls_of mine → IsClosed mine k) x accounts (closed_own x (accounts (caller_of x)) n pending is calling) (λ d other. closed d)
 
 -- a clean's events open no fix
 opens_none : (n : ℕ) (k : Kind) (held : List Held) → is_of_clean (event.Entry (record { place = 0; caller = 0; number = n; kind = k })) ≡ true → held_after_kind n k held ≡ held

@@ -1,5 +1,5 @@
 -- Each step on a word keeps the rule.
-use Rattle.std.proofs.Common.{◌≡◌, ◌≢◌, ◌⊎◌, inl, ⊎_elim, ℕ, ◌+◌, ◌*◌, ◌<◌, ◌≤◌, eqb, true, List, [], ◌∷◌, ◌++◌, Option, None, Some, IfSome, set, get_or, refl, sym, ap, ◌∙◌, subst, arith, append_assoc, length-set, get_or-set_other, get_or-set_same, eq-eqb, ne_eqb}
+use Rattle.std.proofs.Common.{◌≡◌, ◌≢◌, inl, ⊎_elim, ℕ, ◌+◌, ◌*◌, ◌<◌, ◌≤◌, eqb, true, List, [], ◌∷◌, ◌++◌, Option, None, Some, set, get_or, refl, sym, ap, ◌∙◌, subst, arith, append_assoc, length-set, get_or-set_other, get_or-set_same, eq-eqb, ne_eqb}
 use lib.Seq.{set-get_or}
 use mathlib.Core.Option.{some, none, some-injective}
 use mathlib.Core.Logic.{dite}
@@ -18,7 +18,7 @@ use Rattle.trail.specs.History.{home}
 use Rattle.trail.specs.Trails.{AreNumbered, caller_of, mark}
 use Rattle.trail_laws.specs.Accounts.{IsAccount, with_event}
 use Rattle.trail_laws.specs.Ending.{AreEndedSoFar, FollowsNewest}
-use Rattle.trail_laws.specs.SoFar.{AreTrueAlone, IsLawfulSoFar}
+use Rattle.trail_laws.specs.SoFar.{IsLawfulSoFar}
 use Rattle.frame_words.specs.Plain.{Plain}
 use Rattle.pool_table.specs.declared.view.Account.{Account}
 use Rattle.pool_table.specs.declared.view.Slot.{Slot}
@@ -26,12 +26,14 @@ use Rattle.pool_table.specs.declared.view.Slot.TheVariants as slot
 use Rattle.pool_table.specs.declared.view.View.{View}
 use Rattle.pool_table.specs.Seen.{DeskSeen}
 use Rattle.pool_table.specs.Views.{account_of, fixes_of, looked, with_turn, without_turn}
-use Rattle.pool_table.specs.Frames.{AreOpen, IsOfHome, counted, row_of}
-use Rattle.pool_table.specs.Kept.{parts_of, fixed_in, IsLoggedEvent, IsTrueAccount, Fits, HasAccount, IsAtHome, IsNewestOf, IsRested, Kept}
+use Rattle.pool_table.specs.Frames.{AreOpen, AreFramesAtRest, AreSettled, AreSized, IsOfHome, counted, row_of}
+use Rattle.pool_table.specs.Ours.{AreOurEntries, AreOurs}
+use Rattle.pool_table.specs.Kept.{parts_of, fixed_in, AreClosed, AreTrueSoFar, IsLoggedEvent, IsTrueAccount, Fits, HasAccount, IsAtHome, IsNewestOf, IsRested, Kept}
 use Rattle.pool_table.specs.Logged.{HasGone, KnowsMore}
 use Rattle.pool_table.specs.Steps.{MayShow}
 use Rattle.pool_table.specs.Told.{IsTaken, tells_give, tells_look, tells_take}
 use Rattle.pool_table.proofs.Lists.{set_at, each_set, total_set, total_same, total_one}
+use Rattle.pool_table.proofs.Alone.{words_set}
 use Rattle.pool_table.proofs.Bounds.{few_counted}
 use Rattle.pool_table.proofs.Closing.{given_rests}
 use Rattle.pool_table.proofs.Fixes.{open_on}
@@ -95,9 +97,9 @@ module _ (D : Type 0) (seen : D → DeskSeen) (start : DeskSeen) where
   turn s = get_or s.words 1 0
 
   -- a step that changes no word, and gives a view with the same turn, parts, accounts and fixes
-  unmoved : (s : St) (r : Kept seen start s) (i id : ℕ) (cs : List (ℕ × Slot D)) (v w : View) → get_elem? s.views id ≡ some v → w.parts ≡ v.parts → w.turn ≡ v.turn → ((k : ℕ) → HasAccount k v → HasAccount k w)
+  unmoved : (s : St) (r : Kept seen start s) (i id : ℕ) (cs : List (ℕ × Slot D)) (v w : View) → get_elem? s.views id ≡ some v → w.parts ≡ v.parts → w.turn ≡ v.turn → w.numbers ≡ v.numbers → ((k : ℕ) → HasAccount k v → HasAccount k w)
       → ((f : ℕ) → fixed_in f w ≡ fixed_in f v) → Fits r.known r.h r.frames (turn s) r.next r.maker r.accounts r.seat id w → Kept seen start (stepped s i (get_or s.words i 0) id cs w keeps)
-  unmoved s r i id cs v w at parts same has fixed fits = subst (λ (ws : List ℕ). Kept seen start record { words = ws; homes = s.homes; views = set s.views id w }) (sym (set-get_or s.words i 0)) record {
+  unmoved s r i id cs v w at parts same numbers has fixed fits = subst (λ (ws : List ℕ). Kept seen start record { words = ws; homes = s.homes; views = set s.views id w }) (sym (set-get_or s.words i 0)) record {
     h = r.h;
     frames = r.frames;
     known = r.known;
@@ -107,10 +109,10 @@ module _ (D : Type 0) (seen : D → DeskSeen) (start : DeskSeen) where
     accounts = r.accounts;
     seat = r.seat;
     turns = record { wide = r.turns.wide; deep = r.turns.deep; mark_is = r.turns.mark_is; free = r.turns.free; held = held_set (turn s) r.seat s.views id v w at same r.turns.held };
-    laws = record { so_far = r.laws.so_far; ended = r.laws.ended; later = r.laws.later; owned = owned_set r.next r.seat s.views id v w at has r.laws.owned };
+    laws = record { so_far = r.laws.so_far; ended = r.laws.ended; closed = r.laws.closed; ours = r.laws.ours; later = r.laws.later; owned = owned_set r.next r.seat s.views id v w at has r.laws.owned };
     framed = record { sums = λ f. r.framed.sums f ∙ sym (total_same (fixed_in f) s.views id v w at (fixed f)); homes = r.framed.homes };
     rested = r.rested;
-    words = r.words;
+    words = words_set r.h r.accounts s.views id v w at numbers r.words;
     each = each_set (Fits r.known r.h r.frames (turn s) r.next r.maker r.accounts r.seat) s.views id w fits (λ j u _. r.each j u);
     whole = total_same parts_of s.views id v w at parts ∙ r.whole;
   }
@@ -121,7 +123,7 @@ module _ (D : Type 0) (seen : D → DeskSeen) (start : DeskSeen) where
     looked v r.h,
     keeps,
     tt,
-    unmoved s r 0 id me.1 v (looked v r.h) at refl refl (λ k has. has) (λ k. refl) (still_fits r.known r.h r.frames (turn s) r.next r.maker r.accounts r.seat id v f),
+    unmoved s r 0 id me.1 v (looked v r.h) at refl refl refl (λ k has. has) (λ k. refl) (still_fits r.known r.h r.frames (turn s) r.next r.maker r.accounts r.seat id v f),
     (r.h, f.knows.seen.0, refl, f.knows.seen.1, r.turns.mark_is),
   )
 
@@ -170,10 +172,10 @@ module _ (D : Type 0) (seen : D → DeskSeen) (start : DeskSeen) where
           free = λ z. absurd (omega (arith, z, now, is));
           held = λ k e. let number : v.number ≡ k = omega (arith, e, now, is) in (w, subst (λ (j : ℕ). get_elem? (set s.views id w) j ≡ some w) (sym own.1.kept_by ∙ ap r.seat number) (set_at s.views id v w at), refl);
         };
-        laws = record { so_far = r.laws.so_far; ended = r.laws.ended; later = r.laws.later; owned = owned_set r.next r.seat s.views id v w at (λ k has. has) r.laws.owned };
+        laws = record { so_far = r.laws.so_far; ended = r.laws.ended; closed = r.laws.closed; ours = r.laws.ours; later = r.laws.later; owned = owned_set r.next r.seat s.views id v w at (λ k has. has) r.laws.owned };
         framed = record { sums = λ f. r.framed.sums f ∙ sym (total_same (fixed_in f) s.views id v w at refl); homes = r.framed.homes };
         rested = inl (⊎_elim (λ (x : FollowsNewest r.accounts None r.h). x) (λ (z : (k : ℕ) × (turn s ≡ k + 1) × IsNewestOf k r.h). let at = z.1 in absurd (omega (arith, at, free))) r.rested);
-        words = r.words;
+        words = words_set r.h r.accounts s.views id v w at refl r.words;
         each = subst (λ (t : ℕ). (j : ℕ) (u : View) → get_elem? (set s.views id w) j ≡ some u → K t j u) (sym now) (each_set (K new) s.views id w here others);
         whole = total_same parts_of s.views id v w at refl ∙ r.whole;
       }
@@ -185,7 +187,17 @@ module _ (D : Type 0) (seen : D → DeskSeen) (start : DeskSeen) where
       record {
         more = f.knows.seen.0;
         grown = home.history ∙ f.knows.seen.1;
-        home = record { history = refl; frames_are = refl; opening = home.opening; pages = home.pages; known_is = refl; rest = subst Rattle.pool_table.specs.Frames.AreFramesAtRest (sym home.frames_are) home.rest };
+        home = record {
+          history = refl;
+          frames_are = refl;
+          opening = home.opening;
+          instance = home.instance;
+          pages = home.pages;
+          known_is = refl;
+          rest = subst AreFramesAtRest (sym home.frames_are) home.rest;
+          settled = subst (λ (y : List Entry × Plain). AreSettled y.0 y.1) (λ i. (sym home.history i, sym home.frames_are i)) home.settled;
+          sized = subst (λ (y : List Entry × Plain). AreSized start.opening.config y.0 y.1) (λ i. (sym home.history i, sym home.frames_are i)) home.sized;
+        };
         log = ap (λ (x : Known). x.log) home.known_is ∙ r.of_log;
         redo = subst (λ (x : Known). KnowsMore v.redo (Some x)) (sym home.known_is) own.redo;
         frames = λ n. subst (λ (y : List Entry × Plain). IsOfHome start.opening y.0 (row_of y.1 n) n) (λ i. (sym home.history i, sym home.frames_are i)) (r.framed.homes n);
@@ -193,6 +205,7 @@ module _ (D : Type 0) (seen : D → DeskSeen) (start : DeskSeen) where
         few = λ n. subst (λ (x : Plain). counted x n ≤ MOST_FIXES * 64) (sym home.frames_are) (few_counted D seen start s r n);
         numbered = subst (AreNumbered start.opening.first) (sym home.history) places.numbered;
         account = subst (λ (y : List Entry × List Event). IsAccount start.opening.first y.0 v.number y.1) (λ i. (sym home.history i, own.events i)) (places.each v.number);
+        ours = subst (AreOurEntries start) (sym home.history) r.laws.ours.entries;
       }
 
   -- Take the turn: where it was free it is this pass's, with the desk; else all is as it was.
@@ -209,7 +222,7 @@ module _ (D : Type 0) (seen : D → DeskSeen) (start : DeskSeen) where
         v,
         keeps,
         tt,
-        subst (λ b. Kept seen start (stepped s 1 (either b new x) id me.1 v keeps)) (sym (ne_eqb x 0 miss)) (unmoved s r 1 id me.1 v v at refl refl (λ k has. has) (λ k. refl) f),
+        subst (λ b. Kept seen start (stepped s 1 (either b new x) id me.1 v keeps)) (sym (ne_eqb x 0 miss)) (unmoved s r 1 id me.1 v v at refl refl refl (λ k has. has) (λ k. refl) f),
         ((λ z. absurd (miss z)), (λ _. refl)),
       ))
 
@@ -221,10 +234,10 @@ module _ (D : Type 0) (seen : D → DeskSeen) (start : DeskSeen) where
   -- An event of the pass that has the turn, an entry or a receipt.
   pub evented : (s : St) (r : Kept seen start s) (id : ℕ) (cs : List (ℕ × Slot D)) (v : View) (x : Event) (h' more : List Entry) (old g : Plain) (k : Known) (new : ℕ) → get_elem? s.views id ≡ some v → v.turn ≡ true
       → v.frames ≡ Some old → caller_of x ≡ v.number → h' ≡ more ++ v.seen → new ≡ mark start.opening.first h' → IsLawfulSoFar start.opening start.pages h' (with_event x r.accounts)
-      → AreTrueAlone h' (with_event x r.accounts) → MayShow start.opening v.seen h' old g (fixes_of v) (held_after x (fixes_of v)) → KnowsMore v.redo (Some k) → IsLoggedEvent (Some k) x
+      → AreTrueSoFar h' (with_event x r.accounts) s.views → AreOurs start h' (with_event x r.accounts) → AreClosed (with_event x r.accounts) → MayShow start.opening v.seen h' old g (fixes_of v) (held_after x (fixes_of v)) → KnowsMore v.redo (Some k) → IsLoggedEvent (Some k) x
       → AreEndedSoFar (with_event x r.accounts) h' → IsRested (with_event x r.accounts) h' (turn s)
       → Kept seen start (stepped s 0 new id cs (record v { seen = h'; mine = x ∷ v.mine; frames = Some g; redo = Some k }) keeps)
-  evented s r id cs v x h' more old g k new at has framed by longer marked so words show0 knows logged ended rested =
+  evented s r id cs v x h' more old g k new at has framed by longer marked so words ours closed show0 knows logged ended rested =
       let f = r.each id v at in let mine = f.knows.turn has in let own = f.keeps.passes mine.0 in let wide = r.turns.wide in
       let w : View = record v { seen = h'; mine = x ∷ v.mine; frames = Some g; redo = Some k } in
       let on : HasGone r.known k = subst (λ (o : Option Known). KnowsMore o (Some k)) mine.4 knows in
@@ -295,6 +308,8 @@ module _ (D : Type 0) (seen : D → DeskSeen) (start : DeskSeen) where
         laws = record {
           so_far = so;
           ended = ended;
+          closed = closed;
+          ours = ours;
           later = λ c le. with_else x r.accounts c (λ e. let below : v.number < r.next = own.1.below in omega (arith, e, by, le, below)) ∙ r.laws.later c le;
           owned = owned_set r.next r.seat s.views id v w at (λ k has. has) r.laws.owned;
         };
@@ -303,7 +318,7 @@ module _ (D : Type 0) (seen : D → DeskSeen) (start : DeskSeen) where
           homes = show.homes;
         };
         rested = subst (λ (t : ℕ). IsRested accounts h' t) (sym same) rested;
-        words = words;
+        words = words_set h' accounts s.views id v w at refl words;
         each = subst (λ (t : ℕ). (j : ℕ) (u : View) → get_elem? (set s.views id w) j ≡ some u → K t j u) (sym same) (each_set (K t) s.views id w here others);
         whole = total_same parts_of s.views id v w at refl ∙ r.whole;
       }
@@ -369,17 +384,27 @@ module _ (D : Type 0) (seen : D → DeskSeen) (start : DeskSeen) where
             free = λ _. (
               d,
               set_here s.homes 0 (some (slot.Desk d)) (omega (arith, deep)),
-              record { history = home.history ∙ mine.2; frames_are = refl; opening = home.opening; pages = home.pages; known_is = refl; rest = home.rest },
+              record {
+                history = home.history ∙ mine.2;
+                frames_are = refl;
+                opening = home.opening;
+                instance = home.instance;
+                pages = home.pages;
+                known_is = refl;
+                rest = home.rest;
+                settled = subst (λ (l : List Entry). AreSettled l g) mine.2 home.settled;
+                sized = subst (λ (l : List Entry). AreSized start.opening.config l g) mine.2 home.sized;
+              },
             );
             held = λ k e. absurd (omega (arith, e, now));
           };
-          laws = record { so_far = r.laws.so_far; ended = r.laws.ended; later = r.laws.later; owned = owned_set r.next r.seat s.views id v w at (λ k has. has) r.laws.owned };
+          laws = record { so_far = r.laws.so_far; ended = r.laws.ended; closed = r.laws.closed; ours = r.laws.ours; later = r.laws.later; owned = owned_set r.next r.seat s.views id v w at (λ k has. has) r.laws.owned };
           framed = record {
             sums = λ f. let sum = total_set (fixed_in f) s.views id v w at in let a = r.framed.sums f in let b = show.sums f in omega (arith, sum, a, b);
             homes = show.homes;
           };
           rested = inl (given_rests r.h r.accounts v.number v.mine t (f.keeps.passes mine.0).1.events mine.1 r.rested (subst (λ (l : List Entry). IsNewestOf v.number l → FollowsNewest (λ (c : ℕ). v.mine) None l) mine.2 rests));
-          words = r.words;
+          words = words_set r.h r.accounts s.views id v w at refl r.words;
           each = subst (λ (t : ℕ). (j : ℕ) (u : View) → get_elem? (set s.views id w) j ≡ some u → K t j u) (sym now) (each_set (K 0) s.views id w here others);
           whole = total_same parts_of s.views id v w at refl ∙ r.whole;
         },

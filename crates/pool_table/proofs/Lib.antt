@@ -2,10 +2,12 @@ pub mod Lists
 pub mod Fixes
 pub mod Numbers
 pub mod Events
+pub mod Alone
 pub mod Bounds
 pub mod Closing
 pub mod Keeps
 pub mod Appends
+pub mod Notes
 pub mod Seats
 pub mod Starts
 pub mod Ending

@@ -12,16 +12,16 @@ use Rattle.trail.specs.declared.event.Entry.{Entry}
 use Rattle.trail.specs.declared.event.Event.{Event}
 use Rattle.trail_laws.specs.Ending.{AreDistinct}
 use Rattle.trail.specs.declared.event.Held as trails
-use Rattle.trail.specs.Calls.{open_fixes}
 use Rattle.frame_words.specs.Plain.{Plain}
 use Rattle.pool_table.specs.declared.view.Account.{Account}
 use Rattle.pool_table.specs.declared.view.Slot.{Slot}
 use Rattle.pool_table.specs.declared.view.View.{View}
 use Rattle.pool_table.specs.Seen.{DeskSeen}
-use Rattle.pool_table.specs.Views.{account_of, accounts_if, fixes_of, joined, made_pass, maker_after, nobody, numbers_of}
+use Rattle.pool_table.specs.Views.{account_of, accounts_if, joined, made_pass, maker_after, nobody, numbers_of}
 use Rattle.pool_table.specs.Frames.{fixes_in}
-use Rattle.pool_table.specs.Kept.{parts_of, fixed_in, IsTrueAccount, Fits, HasAccount, Kept}
+use Rattle.pool_table.specs.Kept.{parts_of, fixed_in, IsOver, IsTrueAccount, Fits, HasAccount, Kept}
 use Rattle.pool_table.proofs.Lists.{at_append, each_new, each_two, in_first, in_second, set_at, total_new, total_set}
+use Rattle.pool_table.proofs.Alone.{numbers_joined, numbers_new, numbers_set, words_of}
 use Rattle.pool_table.proofs.Numbers.{distinct_both, none_has}
 use Rattle.pool_table.proofs.Events.{off}
 
@@ -62,11 +62,11 @@ brought_has k w false is has = ⊎_elim (λ (t : (w.passes ≡ true) × (w.numbe
     (λ (t : (i : ℕ) × (a : Account) × (get_elem? w.others i ≡ some a) × (a.number ≡ k)). t) has
 
 -- and are the truth at its seat
-brought : (known : Known) (h : List Entry) (frames : Plain) (t next maker : ℕ) (accounts : ℕ → List Event) (seat : ℕ → ℕ) (j : ℕ) (w : View) → Fits known h frames t next maker accounts seat j w → fixes_of w ≡ []
-    → (b : Bool) → w.passes ≡ b → (i : ℕ) (a : Account) → get_elem? (accounts_if b w) i ≡ some a → IsTrueAccount known next accounts seat j a × (open_fixes a.mine ≡ [])
-brought known h frames t next maker accounts seat j w g none true is zero a e = subst (λ (a : Account). IsTrueAccount known next accounts seat j a × (open_fixes a.mine ≡ [])) (some-injective (account_of w) a e) ((g.keeps.passes is).1, none)
-brought known h frames t next maker accounts seat j w g none true is (suc i) a e = let y = g.keeps.others i a e in (y.0, y.1)
-brought known h frames t next maker accounts seat j w g none false is i a e = let y = g.keeps.others i a e in (y.0, y.1)
+brought : (known : Known) (h : List Entry) (frames : Plain) (t next maker : ℕ) (accounts : ℕ → List Event) (seat : ℕ → ℕ) (j : ℕ) (w : View) → Fits known h frames t next maker accounts seat j w → IsOver w.mine
+    → (b : Bool) → w.passes ≡ b → (i : ℕ) (a : Account) → get_elem? (accounts_if b w) i ≡ some a → IsTrueAccount known next accounts seat j a × IsOver a.mine
+brought known h frames t next maker accounts seat j w g over true is zero a e = subst (λ (a : Account). IsTrueAccount known next accounts seat j a × IsOver a.mine) (some-injective (account_of w) a e) ((g.keeps.passes is).1, over)
+brought known h frames t next maker accounts seat j w g over true is (suc i) a e = let y = g.keeps.others i a e in (y.0, y.1)
+brought known h frames t next maker accounts seat j w g over false is i a e = let y = g.keeps.others i a e in (y.0, y.1)
 
 pub brought_apart : (known : Known) (h : List Entry) (frames : Plain) (t next maker : ℕ) (accounts : ℕ → List Event) (seat : ℕ → ℕ) (j : ℕ) (w : View) → Fits known h frames t next maker accounts seat j w
     → (b : Bool) → w.passes ≡ b → AreDistinct (numbers_of (accounts_if b w))
@@ -162,6 +162,8 @@ module _ (D : Type 0) (seen : D → DeskSeen) (start : DeskSeen) where
         laws = record {
           so_far = r.laws.so_far;
           ended = r.laws.ended;
+          closed = r.laws.closed;
+          ours = r.laws.ours;
           later = λ k le. r.laws.later k (omega (arith, le));
           owned = λ k lt. dite (ℕ_discrete k v.number)
               (λ e. (made_pass v, ap (get_elem? (was ++ made_pass v ∷ [])) (seat_with-here r.seat v.number n k e) ∙ last_at was (made_pass v), inl (refl, sym e)))
@@ -177,14 +179,14 @@ module _ (D : Type 0) (seen : D → DeskSeen) (start : DeskSeen) where
           homes = r.framed.homes;
         };
         rested = r.rested;
-        words = r.words;
+        words = words_of r.h r.accounts s.views (was ++ made_pass v ∷ []) (λ c all. numbers_set c s.views id v (maker_after v) at refl (numbers_new c was (made_pass v) all)) r.words;
         each = each_new K s.views id (maker_after v) (made_pass v) left right others;
         whole = let one = total_set parts_of s.views id v (maker_after v) at in let two = total_new parts_of was (made_pass v) in let three = r.whole in omega (arith, one, two, three, some_part);
       }
 
-  -- Join: a pass takes in a view that has no turn and no open fix, with its accounts.
-  pub joins : (id : ℕ) (v : View) (other : ℕ) (w : View) → v.passes ≡ true → v.turn ≡ false → w.turn ≡ false → fixes_of w ≡ [] → Joins {S = Slot D} (Kept seen start) id v other w (joined v w) nobody
-  joins id v other w pass free idle none s r at apart there =
+  -- Join: a pass takes in a view that has no turn, no open fix and no call under way, with its accounts.
+  pub joins : (id : ℕ) (v : View) (other : ℕ) (w : View) → v.passes ≡ true → v.turn ≡ false → w.turn ≡ false → IsOver w.mine → Joins {S = Slot D} (Kept seen start) id v other w (joined v w) nobody
+  joins id v other w pass free idle over s r at apart there =
       let f = r.each id v at in let own = f.keeps.passes pass in let t : ℕ = get_or s.words 1 0 in let both = joined v w in
       let back : get_elem? s.views other ≡ some w = sym (set_else s.views id other both apart) ∙ there in
       let g = r.each other w back in
@@ -215,12 +217,12 @@ module _ (D : Type 0) (seen : D → DeskSeen) (start : DeskSeen) where
           unnamed = f.keeps.unnamed;
           others = λ i a e. ⊎_elim
               (λ (is : get_elem? v.others i ≡ some a). let x = f.keeps.others i a is in (stays id a (λ e. apart (sym e)) x.0, x.1, x.2))
-              (λ (is : (k : ℕ) × (get_elem? (accounts_if w.passes w) k ≡ some a)). let x = brought r.known r.h r.frames t r.next r.maker r.accounts r.seat other w g none w.passes refl is.0 a is.1 in
+              (λ (is : (k : ℕ) × (get_elem? (accounts_if w.passes w) k ≡ some a)). let x = brought r.known r.h r.frames t r.next r.maker r.accounts r.seat other w g over w.passes refl is.0 a is.1 in
               (comes a x.0, x.1, (λ _ same. apart (sym x.0.kept_by ∙ (ap r.seat same ∙ own.1.kept_by)))))
               (at_append v.others (accounts_if w.passes w) a i e);
           idle = λ z. let p = own.0 in absurd (omega (arith, z, p));
           apart = distinct_both v.others (accounts_if w.passes w) f.keeps.apart (brought_apart r.known r.h r.frames t r.next r.maker r.accounts r.seat other w g w.passes refl)
-              (λ i k a b first second same. let x = (f.keeps.others i a first).0 in let y = brought r.known r.h r.frames t r.next r.maker r.accounts r.seat other w g none w.passes refl k b second in
+              (λ i k a b first second same. let x = (f.keeps.others i a first).0 in let y = brought r.known r.h r.frames t r.next r.maker r.accounts r.seat other w g over w.passes refl k b second in
               apart (sym y.0.kept_by ∙ (ap r.seat same ∙ x.kept_by)));
         };
         fixes = f.fixes;
@@ -259,6 +261,8 @@ module _ (D : Type 0) (seen : D → DeskSeen) (start : DeskSeen) where
         laws = record {
           so_far = r.laws.so_far;
           ended = r.laws.ended;
+          closed = r.laws.closed;
+          ours = r.laws.ours;
           later = r.laws.later;
           owned = λ k lt. let h = r.laws.owned k lt in dite (ℕ_discrete (r.seat k) other)
               (λ e. let same : h.0 ≡ w = some-injective h.0 w (sym h.1 ∙ (ap (get_elem? s.views) e ∙ back)) in
@@ -273,11 +277,11 @@ module _ (D : Type 0) (seen : D → DeskSeen) (start : DeskSeen) where
         };
         framed = record {
           sums = λ k. let one = total_set (fixed_in k) s.views id v both at in let two = total_set (fixed_in k) (set s.views id both) other w nobody there in
-              let zero' : fixed_in k w ≡ 0 = ap (λ (held : List trails.Held). fixes_in held k) none in let a = r.framed.sums k in omega (arith, one, two, zero', a);
+              let zero' : fixed_in k w ≡ 0 = ap (λ (held : List trails.Held). fixes_in held k) over.unfixed in let a = r.framed.sums k in omega (arith, one, two, zero', a);
           homes = r.framed.homes;
         };
         rested = r.rested;
-        words = r.words;
+        words = words_of r.h r.accounts s.views views (λ c. numbers_joined c s.views id other v w both nobody at back (λ e. apart (sym e)) refl) r.words;
         each = each_two K s.views id other both nobody here (nobody_fits r.known r.h r.frames t r.next r.maker r.accounts seat' other) others;
         whole = let one = total_set parts_of s.views id v both at in let two = total_set parts_of (set s.views id both) other w nobody there in let three = r.whole in omega (arith, one, two, three);
       }

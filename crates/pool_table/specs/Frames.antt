@@ -1,9 +1,12 @@
 -- How the desk's frames stand to the history and to the open fixes.
-use Rattle.std.specs.Prelude.{ℕ, true, false, List, [], ◌∷◌, ◌≡◌, ◌+◌, ◌⊎◌, ◌==◌, None, Some, IfSome, slice_index_or, if◌then◌else◌}
+use Rattle.std.specs.Prelude.{ℕ, true, false, List, [], ◌∷◌, ◌≡◌, ◌+◌, ◌*◌, ◌<◌, ◌⊎◌, ◌==◌, None, Some, IfSome, IsSome, length, slice_index_or, if◌then◌else◌}
 use Rattle.std.specs.List.{AllByRecursion}
 use Rattle.page_ids.specs.Size.{page_bytes}
+use Rattle.page_ids.specs.declared.ids.PageId.{PageId}
+use Rattle.page_ids.specs.declared.config.Config.{Config}
 use Rattle.trail.specs.declared.event.Entry.{Entry}
 use Rattle.trail.specs.declared.event.Held.{Held}
+use Rattle.trail.specs.Book.{book}
 use Rattle.trail.specs.History.{change, home, value}
 use Rattle.trail.specs.Trails.{Opening}
 use Rattle.frame_words.specs.Rows.{Row, new_row}
@@ -36,6 +39,17 @@ pub record AreFramesAtRest (frames : Plain) : Type 0 where
   pub visit : frames.visit ≡ None
   pub owed : frames.owed ≡ None
 
+-- Between turns each page's home is a resident frame, and a frame that isn't resident has the clock of its last change.
+pub record AreSettled (h : List Entry) (frames : Plain) : Type 0 where
+  pub housed : (p : PageId) (f : ℕ) → home h p ≡ Some f → (row_of frames f).resident ≡ true
+  pub clocks : (f : ℕ) → f < length frames.rows → (row_of frames f).resident ≡ false → (row_of frames f).clock ≡ change h f
+
+-- There is a row for each frame that there may ever be, and each frame of the chunks has an image of the page size.
+pub record AreSized (config : Config) (h : List Entry) (frames : Plain) : Type 0 where
+  pub count : length frames.rows ≡ config.frames * config.max
+  pub there : (f : ℕ) → f < (book config h).chunks * config.frames → IsSome (row_of frames f).image
+  pub sized : (f : ℕ) → IfSome (row_of frames f).image (λ image. IfSome image (λ c. length c.bytes ≡ page_bytes config.page))
+
 -- the page is there, or its create's visit is still to come
 abbrev pub IsThere : Plain → ℕ → Type 0
 IsThere frames f = ((row_of frames f).resident ≡ true) ⊎ (frames.owed ≡ Some f)
@@ -49,7 +63,9 @@ abbrev pub AreOpen : List Entry → Plain → List Held → Type 0
 AreOpen h frames held = AllByRecursion (IsOpenFix h frames) held
 
 -- frames that never held a page
-pub record AreNewFrames (frames : Plain) : Type 0 where
+pub record AreNewFrames (config : Config) (frames : Plain) : Type 0 where
   pub away : (f : ℕ) → (row_of frames f).resident ≡ false
+  pub unchanged : (f : ℕ) → (row_of frames f).clock ≡ 0
+  pub sized : AreSized config [] frames
   pub unheld : (f : ℕ) → held_of (row_of frames f) ≡ 0
   pub rest : AreFramesAtRest frames

@@ -10,10 +10,11 @@ use Rattle.trail.specs.declared.event.Entry.{Entry}
 use Rattle.trail.specs.declared.event.Event.{Event}
 use Rattle.trail.specs.declared.event.Event.TheVariants as event
 use Rattle.trail.specs.Kinds.{Writing, write_in}
-use Rattle.trail.specs.Calls.{open_fixes}
+use Rattle.trail.specs.Calls.{calls_of, open_fixes}
 use Rattle.trail.specs.Trails.{mark}
+use Rattle.trail_laws.specs.Adding.{IsClosed}
 use Rattle.trail_laws.specs.Ending.{AreDistinct, AreEndedSoFar, FollowsNewest}
-use Rattle.trail_laws.specs.SoFar.{AreTrueAlone, IsLawfulSoFar}
+use Rattle.trail_laws.specs.SoFar.{AreAlone, AreTrueBy, IsLawfulSoFar}
 use Rattle.frame_words.specs.Plain.{Plain}
 use Rattle.pool_table.specs.declared.view.TheConstants.{PARTS}
 use Rattle.pool_table.specs.declared.view.Account.{Account}
@@ -23,7 +24,8 @@ use Rattle.pool_table.specs.declared.view.View.{View}
 use Rattle.pool_table.specs.Seen.{DeskSeen}
 use Rattle.pool_table.specs.Logged.{KnowsMore, log_end_in, record_in}
 use Rattle.pool_table.specs.Views.{account_of, fixes_of, numbers_of}
-use Rattle.pool_table.specs.Frames.{AreOpen, AreFramesAtRest, IsOfHome, counted, fixes_in, row_of}
+use Rattle.pool_table.specs.Frames.{AreOpen, AreFramesAtRest, AreSettled, AreSized, IsOfHome, counted, fixes_in, row_of}
+use Rattle.pool_table.specs.Ours.{AreOurs}
 
 -- what these views have together
 abbrev pub total : (View → ℕ) → List View → ℕ
@@ -59,12 +61,25 @@ pub record Knows (h : List Entry) (frames : Plain) (known : Known) (t : ℕ) (v 
   pub seen : (more : List Entry) × (h ≡ more ++ v.seen)
   pub turn : v.turn ≡ true → (v.passes ≡ true) × (t ≡ v.number + 1) × (v.seen ≡ h) × (v.frames ≡ Some frames) × (v.redo ≡ Some known)
 
+-- each call but the newest has its answer, or is a resize that was left
+abbrev pub AreClosed : (ℕ → List Event) → Type 0
+AreClosed accounts = (c k : ℕ) → 1 ≤ k → k < calls_of (accounts c) → IsClosed (accounts c) k
+
+-- and so has the newest: no call is under way
+abbrev pub HasNoCall : List Event → Type 0
+HasNoCall mine = 1 ≤ calls_of mine → IsClosed mine (calls_of mine)
+
+-- what a pass did that was taken in: no fix is open, and no call is under way
+pub record IsOver (mine : List Event) : Type 0 where
+  pub unfixed : open_fixes mine ≡ []
+  pub answered : HasNoCall mine
+
 -- which accounts a view has
 pub record HasAccounts (known : Known) (next maker : ℕ) (accounts : ℕ → List Event) (seat : ℕ → ℕ) (j : ℕ) (v : View) : Type 0 where
   pub makes : v.makes ≡ true → (j ≡ maker) × (v.number ≡ next) × (v.passes ≡ false) × (v.others ≡ [])
   pub passes : v.passes ≡ true → (0 < v.parts) × IsTrueAccount known next accounts seat j (account_of v)
   pub unnamed : v.passes ≡ false → v.mine ≡ []
-  pub others : (i : ℕ) (a : Account) → get_elem? v.others i ≡ some a → IsTrueAccount known next accounts seat j a × (open_fixes a.mine ≡ []) × (v.passes ≡ true → a.number ≢ v.number)
+  pub others : (i : ℕ) (a : Account) → get_elem? v.others i ≡ some a → IsTrueAccount known next accounts seat j a × IsOver a.mine × (v.passes ≡ true → a.number ≢ v.number)
   pub idle : v.parts ≡ 0 → v.others ≡ []
   pub apart : AreDistinct (numbers_of v.others)
 
@@ -84,6 +99,14 @@ pub record Fits (known : Known) (h : List Entry) (frames : Plain) (t next maker 
   pub fixes : AreOpen h frames (fixes_of v)
   pub bare : IsBare v
 
+-- each caller that changed a frame's word through these views is this one
+abbrev pub AreNumbersOf : ℕ → List View → Type 0
+AreNumbersOf c views = (j : ℕ) (v : View) → get_elem? views j ≡ some v → AllByRecursion (λ (n : ℕ). n ≡ c) v.numbers
+
+-- Words are true wherever a caller is alone, in all events and in all that changed a frame's word, whose event may be still to come.
+abbrev pub AreTrueSoFar : List Entry → (ℕ → List Event) → List View → Type 0
+AreTrueSoFar h accounts views = (c : ℕ) (flush : Option ℕ) → AreAlone c flush accounts → AreNumbersOf c views → (d : ℕ) → AreTrueBy c h (accounts d)
+
 -- the view has the account with this number
 abbrev pub HasAccount : ℕ → View → Type 0
 HasAccount k v = ((v.passes ≡ true) × (v.number ≡ k)) ⊎ ((i : ℕ) × (a : Account) × (get_elem? v.others i ≡ some a) × (a.number ≡ k))
@@ -97,11 +120,13 @@ IsNewestOf c (e ∷ h) = e.caller ≡ c
 abbrev pub IsRested : (ℕ → List Event) → List Entry → ℕ → Type 0
 IsRested accounts h t = FollowsNewest accounts None h ⊎ ((k : ℕ) × (t ≡ k + 1) × IsNewestOf k h)
 
--- The history and the accounts are lawful, each entry but the newest has what it needs behind it, and each number that was given has its account at its seat; the
--- others have none.
+-- The history and the accounts are lawful and of this instance, each entry but the newest has what it needs behind it, each call but a caller's newest its answer, and
+-- each number that was given has its account at its seat; the others have none.
 pub record AreAccounts (start : DeskSeen) (h : List Entry) (next : ℕ) (accounts : ℕ → List Event) (seat : ℕ → ℕ) (views : List View) : Type 0 where
   pub so_far : IsLawfulSoFar start.opening start.pages h accounts
   pub ended : AreEndedSoFar accounts h
+  pub closed : AreClosed accounts
+  pub ours : AreOurs start h accounts
   pub later : (k : ℕ) → next ≤ k → accounts k ≡ []
   pub owned : (k : ℕ) → k < next → (v : View) × (get_elem? views (seat k) ≡ some v) × HasAccount k v
 
@@ -110,14 +135,17 @@ pub record AreFrames (start : DeskSeen) (h : List Entry) (frames : Plain) (views
   pub sums : (f : ℕ) → counted frames f ≡ total (fixed_in f) views
   pub homes : (f : ℕ) → IsOfHome start.opening h (row_of frames f) f
 
--- The desk in its slot tells the history, the frames, and what is known of the log. What ties its disk to the history is its own invariant.
+-- The desk in its slot tells the history, the frames, which are at rest, and what is known of the log. What ties its disk to the history is its own invariant.
 pub record IsAtHome (start d : DeskSeen) (h : List Entry) (frames : Plain) (known : Known) : Type 0 where
   pub history : d.history ≡ h
   pub frames_are : d.frames ≡ frames
   pub opening : d.opening ≡ start.opening
+  pub instance : d.instance ≡ start.instance
   pub pages : d.pages ≡ start.pages
   pub known_is : d.known ≡ known
   pub rest : AreFramesAtRest frames
+  pub settled : AreSettled h frames
+  pub sized : AreSized start.opening.config h frames
 
 module _ {D : Type 0} (seen : D → DeskSeen) (start : DeskSeen) where
   -- One history, whose last place is the mark. Without a turn the desk is in its slot; a turn is had by one view.
@@ -141,7 +169,6 @@ module _ {D : Type 0} (seen : D → DeskSeen) (start : DeskSeen) where
     pub laws : AreAccounts start h next accounts seat s.views
     pub rested : IsRested accounts h (slice_index s.words 1)
     pub framed : AreFrames start h frames s.views
-    -- Words that were found are true wherever a caller is alone.
-    pub words : AreTrueAlone h accounts
+    pub words : AreTrueSoFar h accounts s.views
     pub each : (j : ℕ) (v : View) → get_elem? s.views j ≡ some v → Fits known h frames (slice_index s.words 1) next maker accounts seat j v
     pub whole : total parts_of s.views ≡ PARTS

@@ -1,6 +1,7 @@
 pub mod Seen
 pub mod Views
 pub mod Frames
+pub mod Ours
 pub mod Logged
 pub mod Kept
 pub mod Steps

@@ -1,12 +1,9 @@
 -- What an entry says of the log, and how what is known of it grows.
 use Rattle.std.specs.Prelude.{◌≡◌, ◌≤◌, ℕ, [], Option, None, Some, IsSomeAnd, Contains, ⊤}
-use Rattle.page_ids.specs.declared.ids.PageId.{PageId}
 use Rattle.redo_mark.specs.Records.{record_of}
 use Rattle.redo_mark.specs.declared.record.ChangeKind.TheVariants as change
 use Rattle.redo_log.specs.declared.view.Piece.{Piece}
 use Rattle.redo_log.specs.Passes.{Known}
-use Rattle.trail.specs.declared.event.Call.{Call}
-use Rattle.trail.specs.declared.event.Cause.{Cause}
 use Rattle.trail.specs.declared.event.Cause.TheVariants as cause
 use Rattle.trail.specs.declared.event.Kind.{Kind}
 use Rattle.trail.specs.declared.event.Kind.TheVariants as kind

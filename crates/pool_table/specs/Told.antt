@@ -23,7 +23,8 @@ use Rattle.pool_table.specs.Seen.{DeskSeen}
 use Rattle.pool_table.specs.Frames.{AreOpen, IsOfHome, counted, row_of}
 use Rattle.pool_table.specs.Logged.{KnowsMore}
 use Rattle.pool_table.specs.Kept.{IsAtHome}
-use Rattle.pool_table.specs.Views.{appended, fixes_of, looked, noted, with_turn, without_turn}
+use Rattle.pool_table.specs.Ours.{AreOurEntries}
+use Rattle.pool_table.specs.Views.{appended, fixes_of, looked, noted, noted_in_turn, with_turn, without_turn}
 
 -- what is told where nothing is
 abbrev pub no_entry : Entry
@@ -45,7 +46,7 @@ abbrev pub no_known : Known
 no_known = record { log = no_table; end = 0; durable = 0; faults = 0; met = 0; pieces = []; share = 0; lost = 0 }
 
 abbrev pub no_desk : DeskSeen
-no_desk = record { opening = record { config = no_config; first = 0; base = None }; pages = λ s. 0; history = []; frames = no_frames; known = no_known }
+no_desk = record { opening = record { config = no_config; first = 0; base = None }; instance = 0; pages = λ s. 0; history = []; frames = no_frames; known = no_known }
 
 abbrev pub SeatOf : Type 0 → Type 0
 SeatOf D = Me (Slot D) View
@@ -57,8 +58,12 @@ module _ {D : Type 0} where
   abbrev pub tells_append : Entry → Plain → Known → StepOf D → SeatOf D → ℕ → SeatOf D → Type 0
   tells_append e g k st m n m' = m' ≡ (appended m.0 e g k, m.1)
 
-  abbrev pub tells_note : Receipt → Plain → Known → StepOf D → SeatOf D → ℕ → SeatOf D → Type 0
-  tells_note r g k st m n m' = (m' ≡ (noted m.0 r g k, m.1)) × (n ≡ r.place)
+  abbrev pub tells_note_in_turn : Receipt → Plain → Known → StepOf D → SeatOf D → ℕ → SeatOf D → Type 0
+  tells_note_in_turn r g k st m n m' = (m' ≡ (noted_in_turn m.0 r g k, m.1)) × (n ≡ r.place)
+
+  -- the mark was loaded, what it marks is seen, and the receipt has its place
+  abbrev pub tells_note : Receipt → ℕ → StepOf D → SeatOf D → ℕ → SeatOf D → Type 0
+  tells_note r first st m n m' = (h : List Entry) × (more : List Entry) × (m' ≡ (noted m.0 (record r { place = n }) h, m.1)) × (h ≡ more ++ m.0.seen) × (n ≡ mark first h)
 
   -- the mark was loaded, and what it marks is seen
   abbrev pub tells_look : ℕ → StepOf D → SeatOf D → ℕ → SeatOf D → Type 0
@@ -80,6 +85,7 @@ pub record IsTaken (start d : DeskSeen) (v : View) : Type 0 where
   pub few : (f : ℕ) → counted d.frames f ≤ MOST_FIXES * PARTS
   pub numbered : AreNumbered start.opening.first d.history
   pub account : IsAccount start.opening.first d.history v.number v.mine
+  pub ours : AreOurEntries start d.history
 
 -- the turn was free, and now it is this pass's, with the desk; or it was another's
 abbrev pub tells_take : {D : Type 0} → (D → DeskSeen) → DeskSeen → StepOf D → SeatOf D → ℕ → SeatOf D → Type 0

@@ -1,5 +1,5 @@
 -- The views, and what each step makes of one.
-use Rattle.std.specs.Prelude.{ℕ, map, Bool, true, false, List, [], ◌∷◌, ◌++◌, ◌+◌, ◌-◌, Option, None, Some, length, nat_le, if◌then◌else◌}
+use Rattle.std.specs.Prelude.{ℕ, map, Bool, true, false, List, [], ◌∷◌, ◌++◌, ◌+◌, ◌-◌, None, Some, length, nat_le, if◌then◌else◌}
 use Rattle.frame_words.specs.Plain.{Plain}
 use Rattle.redo_log.specs.Passes.{Known}
 use Rattle.trail.specs.declared.event.Entry.{Entry}
@@ -81,8 +81,12 @@ without_turn v = record v { turn = false; frames = None }
 abbrev pub appended : View → Entry → Plain → Known → View
 appended v e g k = record v { seen = e ∷ v.seen; mine = event.Entry e ∷ v.mine; frames = Some g; redo = Some k }
 
-abbrev pub noted : View → Receipt → Plain → Known → View
-noted v r g k = record v { mine = event.Receipt r ∷ v.mine; frames = Some g; redo = Some k }
+abbrev pub noted_in_turn : View → Receipt → Plain → Known → View
+noted_in_turn v r g k = record v { mine = event.Receipt r ∷ v.mine; frames = Some g; redo = Some k }
+
+-- it looked at the mark and left this receipt at it, for which it needs no turn
+abbrev pub noted : View → Receipt → List Entry → View
+noted v r h = record v { seen = h; mine = event.Receipt r ∷ v.mine }
 
 -- its open fixes
 abbrev pub fixes_of : View → List Held

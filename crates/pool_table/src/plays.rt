@@ -1,11 +1,12 @@
-//! What each step tells its seat. The entry, receipt and frames of a step enter by a type parameter, and each call picks them.
+//! What each step tells its seat. The entry, receipt and frames of a step enter by a type parameter, and each call
+//! picks them.
 ghost use Rattle.std.specs.Prelude.{ℕ};
 ghost use Rattle.trail.specs.declared.event.Entry.{Entry};
 ghost use Rattle.trail.specs.declared.event.Receipt.{Receipt};
 ghost use Rattle.frame_words.specs.Plain.{Plain};
 ghost use Rattle.redo_log.specs.Passes.{Known};
 ghost use Rattle.pool_table.specs.Seen.{DeskSeen};
-ghost use Rattle.pool_table.specs.Told.{no_desk, no_entry, no_frames, no_known, no_receipt, tells_append, tells_give, tells_look, tells_note, tells_take};
+ghost use Rattle.pool_table.specs.Told.{no_desk, no_entry, no_frames, no_known, no_receipt, tells_append, tells_give, tells_look, tells_note, tells_note_in_turn, tells_take};
 ghost use Rattle.pool_table.specs.Views.{joined, made_pass, maker_after, nobody};
 
 use crate::view::{Lodger, Slot, View};
@@ -21,7 +22,7 @@ impl Appended for Brand {
     ghost entry = { no_entry };
 }
 
-/// The receipt that a step leaves.
+/// The receipt that a step leaves. Where the step finds its place, that of this one counts for nothing.
 pub trait Noted {
     ghost receipt: { Receipt };
 }
@@ -56,13 +57,22 @@ impl<D: Lodger, E: Appended + Shown> Play<Slot<D>, View> for Append<E> {
     ghost then = { tells_append E.entry E.frames E.known };
 }
 
-/// A load of the mark that leaves a receipt.
+/// A load of the mark that leaves a receipt, by the pass that has the turn.
+pub struct NoteInTurn<E> {
+    of: PhantomData<E>,
+}
+
+impl<D: Lodger, E: Noted + Shown> Play<Slot<D>, View> for NoteInTurn<E> {
+    ghost then = { tells_note_in_turn E.receipt E.frames E.known };
+}
+
+/// A load of the mark that leaves a receipt at the place which is found there.
 pub struct Note<E> {
     of: PhantomData<E>,
 }
 
 impl<D: Lodger, E: Noted + Shown> Play<Slot<D>, View> for Note<E> {
-    ghost then = { tells_note E.receipt E.frames E.known };
+    ghost then = { tells_note E.receipt E.first };
 }
 
 /// A load of the mark.
